@@ -8,8 +8,8 @@ use native.Mathlib.Decide.{dec_lt}
 use native.Mathlib.Omega.{arith}
 use borrow.Author.Tests.{lt-ltb, le-ltb, ne_eqb, ltb-false, leb-false}
 use lib.Dec.{leb, ltb, eqb}
-use Rattle.protocol.specs.Protocol.{ack, sendWindow}
-use Rattle.protocol.specs.Serial.{minus, isAfter}
+use Rattle.protocol.specs.Protocol.{ack, send_window}
+use Rattle.protocol.specs.Serial.{minus, is_after}
 use Rattle.protocol.specs.SerialLaws.{after_test}
 use Rattle.wire.specs.declared.Header.{Header}
 use Rattle.acknowledge.specs.Hearing.{Concerns}
@@ -33,7 +33,7 @@ by_way : (x n una : ℕ) → x < 2 ^ 32 → n < 2 ^ 32 → una < 2 ^ 32 → minu
 by_way x n una a b c h = omega arith
 
 -- one that is not ahead of una is after no number from una on, less than half way round
-behind : (x n una : ℕ) → x < 2 ^ 32 → n < 2 ^ 32 → una < 2 ^ 32 → minus n una ≤ sendWindow → minus x una ≡ 0
+behind : (x n una : ℕ) → x < 2 ^ 32 → n < 2 ^ 32 → una < 2 ^ 32 → minus n una ≤ send_window → minus x una ≡ 0
     → (ltb 0 (minus x n) && ltb (minus x n) (2 ^ 31)) ≡ false
 behind x n una a b c h e = go (dec_lt (minus x n) (2 ^ 31)) (dec_lt 0 (minus x n))
   where
@@ -59,10 +59,10 @@ less : {p d q k x : ℕ} → p + d ≡ x → q + k ≡ x → k < d → p < q
 less e f h = omega arith
 
 module _ (una next n : ℕ) (una32 : una < 2 ^ 32) (next32 : next < 2 ^ 32) (n32 : n < 2 ^ 32)
-    (apart : minus next una ≤ sendWindow) (near : minus n una < minus next una) where
+    (apart : minus next una ≤ send_window) (near : minus n una < minus next una) where
   -- a una that is not from behind una up to next is after next, or not after n
   not_after : (x : ℕ) → x < 2 ^ 32 → (ltb 0 (minus x una) && leb (minus x una) (minus next una)) ≡ false
-      → (not (isAfter x next) && isAfter x n) ≡ false
+      → (not (is_after x next) && is_after x n) ≡ false
   not_after x x32 e = rw (after_test x next, after_test x n) (go (fails (ltb 0 (minus x una)) (leb (minus x una) (minus next una)) e))
     where
       go : (ltb 0 (minus x una) ≡ false) ⊎ (leb (minus x una) (minus next una) ≡ false)
@@ -84,11 +84,11 @@ module _ (una next n : ℕ) (una32 : una < 2 ^ 32) (next32 : next < 2 ^ 32) (n32
 neither : (a b : Bool) → a ≡ false → b ≡ false → not (a || b) ≡ true
 neither a b e f = rw (e, f)
 
-pub concerns-is : (h : Header) (una next : ℕ) (r : Bool) → una < 2 ^ 32 → next < 2 ^ 32 → h.una < 2 ^ 32
+pub concerns_is : (h : Header) (una next : ℕ) (r : Bool) → una < 2 ^ 32 → next < 2 ^ 32 → h.una < 2 ^ 32
     → r ≡ (ltb 0 (minus h.una una) && leb (minus h.una una) (minus next una)
     || (eqb h.cmd ack && ltb (minus h.sn una) (minus next una)))
     → Concerns h una next r
-concerns-is h una next r una32 next32 h32 e = record {
+concerns_is h una next r una32 next32 h32 e = record {
   none = λ f apart n n32 near.
       let p = either _ _ (sym e ∙ f) in
       neither _ _ (not_after una next n una32 next32 n32 apart near h.una h32 p.0)

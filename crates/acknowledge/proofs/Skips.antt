@@ -6,33 +6,33 @@ use mathlib.Core.List.{List, [], ◌∷◌, map}
 use Prim.Native.Nat.{ℕ, zero, suc}
 use borrow.Author.Tests.{eq-eqb, ne_eqb}
 use lib.ListN.{take}
-use Rattle.protocol.specs.Serial.{isBefore, isAfter}
+use Rattle.protocol.specs.Serial.{is_before, is_after}
 use Rattle.wire.specs.declared.Header.{Header}
 use Rattle.timing.specs.declared.Record.{Record}
 use Rattle.retransmission.specs.Transmissions.{skipped}
-use Rattle.lists.specs.Joining.{withRecord, joined}
-use Rattle.lists.specs.Acknowledging.{oneSkip, skipBefore}
+use Rattle.lists.specs.Joining.{with_record, joined}
+use Rattle.lists.specs.Acknowledging.{one_skip, skip_before}
 use Rattle.lists.specs.declared.Outstanding.{Outstanding}
 use Rattle.lists.specs.declared.Sent.{Sent}
 use Rattle.session.specs.Input as input
-use Rattle.words.specs.Words.{paired, outstandingAt, outstandingIn}
-use Rattle.words.proofs.Pairs.{paired-take}
-use Rattle.acknowledge.specs.Flights.{View, view, sentIn, InOrder, FlightIs}
-use Rattle.acknowledge.specs.Furthest.{further, furtherBy, skippedBy}
-use Rattle.acknowledge.specs.Hearing.{skipRecord}
+use Rattle.words.specs.Words.{paired, outstanding_at, outstanding_in}
+use Rattle.words.proofs.Pairs.{paired_take}
+use Rattle.acknowledge.specs.Flights.{View, view, sent_in, InOrder, FlightIs}
+use Rattle.acknowledge.specs.Furthest.{further, further_by, skipped_by}
+use Rattle.acknowledge.specs.Hearing.{skip_record}
 use Rattle.acknowledge.specs.declared.Furthest.{Furthest}
 
 -- ---- one segment more
 
 module _ (f : Furthest) (h : Header) where
-  pub no-ack : (h.cmd ≡ 82 → ⊥) → f ≡ furtherBy f h
-  unfolding furtherBy
-  no-ack e = rw (ne_eqb h.cmd 82 e)
+  pub no_ack : (h.cmd ≡ 82 → ⊥) → f ≡ further_by f h
+  unfolding further_by
+  no_ack e = rw (ne_eqb h.cmd 82 e)
 
   -- the flag says that the number known stays
-  module _ (b : Bool) (e : h.cmd ≡ 82) (g : b ≡ isAfter h.sn f.number) where
-    pub stays : f.any && not b ≡ true → f ≡ furtherBy f h
-    unfolding furtherBy further
+  module _ (b : Bool) (e : h.cmd ≡ 82) (g : b ≡ is_after h.sn f.number) where
+    pub stays : f.any && not b ≡ true → f ≡ further_by f h
+    unfolding further_by further
     stays t = rw (eq-eqb h.cmd 82 e, ← g) (go f.any b t)
       where
         go : (any b : Bool) → any && not b ≡ true
@@ -41,8 +41,8 @@ module _ (f : Furthest) (h : Header) where
         go true true t = absurd (false≢true t)
         go false b t = absurd (false≢true t)
 
-    pub replaced : f.any && not b ≡ false → record { any = true; number = h.sn } ≡ furtherBy f h
-    unfolding furtherBy further
+    pub replaced : f.any && not b ≡ false → record { any = true; number = h.sn } ≡ further_by f h
+    unfolding further_by further
     replaced t = rw (eq-eqb h.cmd 82 e, ← g) (go f.any b t)
       where
         go : (any b : Bool) → any && not b ≡ false
@@ -64,45 +64,45 @@ neither true b t x y = rw t
 neither false b t x y = refl
 
 -- a skip of a record is one of its segment
-skip-joined : (n : ℕ) (o : Outstanding) (r : Record) → withRecord o (skipRecord n r) ≡ skipBefore n (withRecord o r)
-unfolding skipRecord skipBefore
-skip-joined n o r = go (isBefore r.number n)
+skip_joined : (n : ℕ) (o : Outstanding) (r : Record) → with_record o (skip_record n r) ≡ skip_before n (with_record o r)
+unfolding skip_record skip_before
+skip_joined n o r = go (is_before r.number n)
   where
-    go : (t : Bool) → withRecord o (cond t (skipped r) r) ≡ cond t (oneSkip (withRecord o r)) (withRecord o r)
+    go : (t : Bool) → with_record o (cond t (skipped r) r) ≡ cond t (one_skip (with_record o r)) (with_record o r)
     go true = refl
     go false = refl
 
-skips-joined : (n : ℕ) (os : List Outstanding) (rs : List Record) → joined os (map (skipRecord n) rs) ≡ map (skipBefore n) (joined os rs)
+skips_joined : (n : ℕ) (os : List Outstanding) (rs : List Record) → joined os (map (skip_record n) rs) ≡ map (skip_before n) (joined os rs)
 unfolding joined
-skips-joined n [] rs = refl
-skips-joined n (o ∷ os) [] = refl
-skips-joined n (o ∷ os) (r ∷ rs) = rw (skip-joined n o r, skips-joined n os rs)
+skips_joined n [] rs = refl
+skips_joined n (o ∷ os) [] = refl
+skips_joined n (o ∷ os) (r ∷ rs) = rw (skip_joined n o r, skips_joined n os rs)
 
 -- k segments are joined with the first k records
-joined-front : (k : ℕ) (os : List Outstanding) (rs : List Record) → joined (take k os) (take k rs) ≡ joined (take k os) rs
+joined_front : (k : ℕ) (os : List Outstanding) (rs : List Record) → joined (take k os) (take k rs) ≡ joined (take k os) rs
 unfolding joined
-joined-front zero os rs = refl
-joined-front (suc k) [] rs = refl
-joined-front (suc k) (o ∷ os) [] = refl
-joined-front (suc k) (o ∷ os) (r ∷ rs) = ap (λ (l : List Sent). withRecord o r ∷ l) (joined-front k os rs)
+joined_front zero os rs = refl
+joined_front (suc k) [] rs = refl
+joined_front (suc k) (o ∷ os) [] = refl
+joined_front (suc k) (o ∷ os) (r ∷ rs) = ap (λ (l : List Sent). with_record o r ∷ l) (joined_front k os rs)
 
 module _ (v : View) (n : Furthest) (b : Bool) (o : InOrder v)
-    (g : b ≡ (not (isBefore n.number v.flight.una) && isBefore n.number v.flight.next)) where
-  pub skips-are : (rs : List Record) → n.any && b ≡ true
-      → take v.flight.outstanding rs ≡ map (skipRecord n.number) (take v.flight.outstanding v.records)
-      → FlightIs (view v.flight v.words v.transmissions rs) v (skippedBy n)
-  unfolding skippedBy input.skipped
-  skips-are rs t s =
+    (g : b ≡ (not (is_before n.number v.flight.una) && is_before n.number v.flight.next)) where
+  pub skips_are : (rs : List Record) → n.any && b ≡ true
+      → take v.flight.outstanding rs ≡ map (skip_record n.number) (take v.flight.outstanding v.records)
+      → FlightIs (view v.flight v.words v.transmissions rs) v (skipped_by n)
+  unfolding skipped_by input.skipped
+  skips_are rs t s =
       let p = both n.any b t in
       let k = v.flight.outstanding in
-      let os = paired outstandingAt v.words v.transmissions in
-      let e : joined (outstandingIn v.words v.transmissions k) rs ≡ map (skipBefore n.number) (sentIn v) =
-      rw (paired-take outstandingAt k v.words v.transmissions) (sym (joined-front k os rs) ∙ rw (s, skips-joined, joined-front)) in
+      let os = paired outstanding_at v.words v.transmissions in
+      let e : joined (outstanding_in v.words v.transmissions k) rs ≡ map (skip_before n.number) (sent_in v) =
+      rw (paired_take outstanding_at k v.words v.transmissions) (sym (joined_front k os rs) ∙ rw (s, skips_joined, joined_front)) in
       record { whole = o.whole; wholes = o.wholes; fits = o.fits; queue = refl; half = λ q. rw (p.0, ← g, p.1, e) }
 
-  pub no-skips : n.any && b ≡ false → FlightIs v v (skippedBy n)
-  unfolding skippedBy input.skipped
-  no-skips t = record {
+  pub no_skips : n.any && b ≡ false → FlightIs v v (skipped_by n)
+  unfolding skipped_by input.skipped
+  no_skips t = record {
     whole = o.whole;
     wholes = o.wholes;
     fits = o.fits;

@@ -2,25 +2,25 @@
 -- Assumes nothing.
 use Rattle.std.specs.Prelude.{◌≡◌, refl, Bool, true, false, cond, List, [], ◌∷◌, ℕ, eqb}
 use Rattle.protocol.specs.Protocol.{ack}
-use Rattle.protocol.specs.Serial.{isAfter}
+use Rattle.protocol.specs.Serial.{is_after}
 use Rattle.datagram.specs.Datagrams.{Segment}
 use Rattle.session.specs.State.{Sending}
-use Rattle.session.specs.Input.{ackNumbers, furthest, skippedByAll}
+use Rattle.session.specs.Input.{ack_numbers, furthest, skipped_by_all}
 use Rattle.acknowledge.specs.declared.Furthest.{Furthest}
-use Rattle.acknowledge.specs.Furthest.{noneYet, further, furtherBy, furtherByAll, skippedBy}
+use Rattle.acknowledge.specs.Furthest.{none_yet, further, further_by, further_by_all, skipped_by}
 
 -- number by number
 onward : Furthest → List ℕ → Furthest
 onward f [] = f
 onward f (n ∷ l) = onward (further f n) l
 
-by-numbers : (gs : List Segment) (f : Furthest) → furtherByAll f gs ≡ onward f (ackNumbers gs)
-unfolding furtherByAll furtherBy ackNumbers onward
-by-numbers [] f = refl
-by-numbers (g ∷ gs) f = go (eqb g.header.cmd ack) (by-numbers gs (furtherBy f g.header))
+by_numbers : (gs : List Segment) (f : Furthest) → further_by_all f gs ≡ onward f (ack_numbers gs)
+unfolding further_by_all further_by ack_numbers onward
+by_numbers [] f = refl
+by_numbers (g ∷ gs) f = go (eqb g.header.cmd ack) (by_numbers gs (further_by f g.header))
   where
-    go : (t : Bool) → furtherByAll (cond t (further f g.header.sn) f) gs ≡ onward (cond t (further f g.header.sn) f) (ackNumbers gs)
-        → furtherByAll (cond t (further f g.header.sn) f) gs ≡ onward f (cond t (g.header.sn ∷ ackNumbers gs) (ackNumbers gs))
+    go : (t : Bool) → further_by_all (cond t (further f g.header.sn) f) gs ≡ onward (cond t (further f g.header.sn) f) (ack_numbers gs)
+        → further_by_all (cond t (further f g.header.sn) f) gs ≡ onward f (cond t (g.header.sn ∷ ack_numbers gs) (ack_numbers gs))
     go true ih = ih
     go false ih = ih
 
@@ -28,7 +28,7 @@ by-numbers (g ∷ gs) f = go (eqb g.header.cmd ack) (by-numbers gs (furtherBy f 
 from_first : (n : ℕ) (l : List ℕ) → onward (record { any = true; number = n }) l ≡ record { any = true; number = furthest n l }
 unfolding further furthest onward
 from_first n [] = refl
-from_first n (k ∷ l) = go (isAfter k n) (from_first k l) (from_first n l)
+from_first n (k ∷ l) = go (is_after k n) (from_first k l) (from_first n l)
   where
     go : (t : Bool) → onward (record { any = true; number = k }) l ≡ record { any = true; number = furthest k l }
         → onward (record { any = true; number = n }) l ≡ record { any = true; number = furthest n l }
@@ -37,10 +37,10 @@ from_first n (k ∷ l) = go (isAfter k n) (from_first k l) (from_first n l)
     go true a b = a
     go false a b = b
 
-skipped-numbers : (s : Sending) (l : List ℕ) → skippedBy (onward noneYet l) s ≡ skippedByAll s l
-unfolding skippedBy further onward
-skipped-numbers s [] = refl
-skipped-numbers s (n ∷ l) = rw (from_first n l)
+skipped_numbers : (s : Sending) (l : List ℕ) → skipped_by (onward none_yet l) s ≡ skipped_by_all s l
+unfolding skipped_by further onward
+skipped_numbers s [] = refl
+skipped_numbers s (n ∷ l) = rw (from_first n l)
 
-pub skipped-all : (s : Sending) (gs : List Segment) → skippedBy (furtherByAll noneYet gs) s ≡ skippedByAll s (ackNumbers gs)
-skipped-all s gs = rw (by-numbers gs noneYet) (skipped-numbers s (ackNumbers gs))
+pub skipped_all : (s : Sending) (gs : List Segment) → skipped_by (further_by_all none_yet gs) s ≡ skipped_by_all s (ack_numbers gs)
+skipped_all s gs = rw (by_numbers gs none_yet) (skipped_numbers s (ack_numbers gs))

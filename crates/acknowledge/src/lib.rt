@@ -1,16 +1,16 @@
 // The sending half hears a datagram in place: windows and round trips, what is acknowledged, and skips.
 ghost use Rattle.std.specs.Prelude.{◌≡◌, cond, not, ◌&&◌, map, ℕ, ◌^◌, ◌≤◌, ◌<◌, ltb, take, length};
 ghost use Rattle.protocol.specs.Ranges.{mss};
-ghost use Rattle.protocol.specs.Serial.{isBefore};
+ghost use Rattle.protocol.specs.Serial.{is_before};
 ghost use Rattle.datagram.specs.StepLaws.{Begun};
 ghost use Rattle.lists.specs.Joining.{joined};
-ghost use Rattle.lists.specs.Acknowledging.{filter, firstNumberOr};
-ghost use Rattle.record_words.specs.RecordWords.{recordsIn};
+ghost use Rattle.lists.specs.Acknowledging.{filter, first_number_or};
+ghost use Rattle.record_words.specs.RecordWords.{records_in};
 ghost use Rattle.session.specs.Decides.{All};
-ghost use Rattle.words.specs.Words.{outstandingIn};
+ghost use Rattle.words.specs.Words.{outstanding_in};
 ghost use Rattle.acknowledge.specs.Flights.{JoinedIn, InOrder, HearsAll, view};
-ghost use Rattle.acknowledge.specs.Furthest.{noneYet, furtherBy};
-ghost use Rattle.acknowledge.specs.Hearing.{staysBy, Concerns, timedBy, skipRecord};
+ghost use Rattle.acknowledge.specs.Furthest.{none_yet, further_by};
+ghost use Rattle.acknowledge.specs.Hearing.{stays_by, Concerns, timed_by, skip_record};
 
 use control::Flight;
 use datagram::Step;
@@ -36,7 +36,7 @@ struct Furthest {
 // Whether the segment with that number stays outstanding after a segment is heard: its una, if not after snd_nxt, is not after the
 // number, and no ack names it.
 fn stays(next: u32, h: Header, number: u32) -> bool
-    ensures { result ≡ staysBy next h number }
+    ensures { result ≡ stays_by next h number }
 {
     let passed = !serial::after(h.una, next) & serial::after(h.una, number);
     !(passed | ((h.cmd == Protocol::ACK) & (number == h.sn)))
@@ -70,11 +70,11 @@ fn remaining(
     h: Header,
 ) -> Left
     requires { (length words.old ≡ 32) × (length transmissions.old ≡ 32) × (length records.old ≡ 128) × (n ≤ 32) }
-    ensures { JoinedIn words.new transmissions.new result.count (recordsIn records.new)
-        (filter (staysBy next h)
-        (joined (outstandingIn words.old transmissions.old n) (recordsIn records.old)))
-        × (result.first ≡ firstNumberOr (filter (staysBy next h)
-        (joined (outstandingIn words.old transmissions.old n) (recordsIn records.old))) next)
+    ensures { JoinedIn words.new transmissions.new result.count (records_in records.new)
+        (filter (stays_by next h)
+        (joined (outstanding_in words.old transmissions.old n) (records_in records.old)))
+        × (result.first ≡ first_number_or (filter (stays_by next h)
+        (joined (outstanding_in words.old transmissions.old n) (records_in records.old))) next)
         × (length records.new ≡ 128) }
 {
     let mut i: usize = 0;
@@ -100,7 +100,7 @@ fn remaining(
 
 // The round trip after a segment is heard: if it is an ack and current - ts is 0 or more, that is a sample.
 fn timed(rtt: RoundTrip, settings: Settings, current: u32, h: Header) -> RoundTrip
-    ensures { result ≡ timedBy settings current h rtt }
+    ensures { result ≡ timed_by settings current h rtt }
 {
     if h.cmd == Protocol::ACK {
         if serial::due(current, h.ts) {
@@ -113,7 +113,7 @@ fn timed(rtt: RoundTrip, settings: Settings, current: u32, h: Header) -> RoundTr
 impl Furthest {
     // No ack has come.
     fn new() -> Self
-        ensures { result ≡ noneYet }
+        ensures { result ≡ none_yet }
     {
         Furthest {
             any: false,
@@ -123,7 +123,7 @@ impl Furthest {
 
     // After a segment: the first ack's number, replaced by each later one that is after it.
     fn after(self, h: Header) -> Self
-        ensures { result ≡ furtherBy self h }
+        ensures { result ≡ further_by self h }
     {
         if h.cmd != Protocol::ACK {
             return self;
@@ -140,14 +140,14 @@ impl Furthest {
 
 // Whether the number counts: it is not before snd_una and is before snd_nxt.
 fn counts(una: u32, next: u32, number: u32) -> bool
-    ensures { result ≡ (not (isBefore number una) && isBefore number next) }
+    ensures { result ≡ (not (is_before number una) && is_before number next) }
 {
     !serial::before(number, una) & serial::before(number, next)
 }
 
 // The record with one skip more if its number is before the given one.
 fn skipped(old: Record, number: u32) -> Record
-    ensures { result ≡ skipRecord number old }
+    ensures { result ≡ skip_record number old }
 {
     if serial::before(old.number, number) {
         outstanding::skipped(old)
@@ -159,7 +159,7 @@ fn skipped(old: Record, number: u32) -> Record
 // The records, where each of the first n whose number is before the given one has one skip more.
 fn skip_before(records: &mut [u32; 128], n: usize, number: u32)
     requires { (length records.old ≡ 128) × (n ≤ 32) }
-    ensures { (take n (recordsIn records.new) ≡ map (skipRecord number) (take n (recordsIn records.old)))
+    ensures { (take n (records_in records.new) ≡ map (skip_record number) (take n (records_in records.old)))
         × (length records.new ≡ 128) }
 {
     let mut i: usize = 0;
@@ -189,12 +189,12 @@ pub fn hear(
     transmissions: &mut [u8; 32],
     s: &[u8],
 ) -> Flight
-    requires { InOrder (view flight outstanding.old transmissions.old (recordsIn records.old))
+    requires { InOrder (view flight outstanding.old transmissions.old (records_in records.old))
         × (length records.old ≡ 128)
         × ((n : ℕ) × Begun settings.conv (mss settings) s.now n) }
     ensures { HearsAll settings current s.now
-        (view flight outstanding.old transmissions.old (recordsIn records.old))
-        (view result outstanding.new transmissions.new (recordsIn records.new))
+        (view flight outstanding.old transmissions.old (records_in records.old))
+        (view result outstanding.new transmissions.new (records_in records.new))
         × (length records.new ≡ 128) }
 {
     words_fit(records);

@@ -3,13 +3,13 @@
 // is given to a function of a crate below; of the table of records the first 128 are read and written. Proved by walks.
 pub mod settings;
 
-ghost use Rattle.promises.specs.Parts.{parts_of, flushPartsOf};
+ghost use Rattle.promises.specs.Parts.{parts_of, flush_parts_of};
 ghost use Rattle.promises.specs.Promises.{OpenPromise, SendPromise, InputPromise, FlushPromise, UpdatePromise, ReadPromise, SizePromise};
-ghost use Rattle.codes.specs.Codes.{answerCode, countCode, updateCode, timeCode, settingsOf};
+ghost use Rattle.codes.specs.Codes.{answer_code, count_code, update_code, time_code, settings_of};
 ghost use Rattle.codes.specs.Gives.{Gives};
-ghost use Rattle.results.specs.PlaceCodes.{placeCode};
+ghost use Rattle.results.specs.PlaceCodes.{place_code};
 ghost use Rattle.std.specs.Prelude.{◌≡◌};
-ghost use Rattle.archive.specs.Blocks.{blockSize, versionNumber};
+ghost use Rattle.archive.specs.Blocks.{block_size, version_number};
 ghost use Rattle.asks.specs.Places.{PlacePromise};
 ghost use Rattle.asks.specs.Times.{TimePromise};
 
@@ -32,7 +32,7 @@ pub extern "C" fn ampferweg_open(
     table: &[Record],
     acks: &[u32],
 ) -> i32
-    ensures { Gives answerCode (λ a. OpenPromise (settingsOf conv mtu mode interval threshold stream congestion) link.old
+    ensures { Gives answer_code (λ a. OpenPromise (settings_of conv mtu mode interval threshold stream congestion) link.old
         (parts_of send_pool.now receive_pool.now table.now acks.now)
         a link.new
         (parts_of send_pool.now receive_pool.now table.now acks.now)) result }
@@ -63,7 +63,7 @@ pub extern "C" fn ampferweg_send(
     acks: &[u32],
     message: &[u8],
 ) -> i32
-    ensures { Gives answerCode (λ a. SendPromise message.now link.old
+    ensures { Gives answer_code (λ a. SendPromise message.now link.old
         (parts_of send_pool.old receive_pool.now table.now acks.now)
         a link.new
         (parts_of send_pool.new receive_pool.now table.now acks.now)) result }
@@ -81,7 +81,7 @@ pub extern "C" fn ampferweg_input(
     acks: &mut [u32],
     datagram: &[u8],
 ) -> i32
-    ensures { Gives answerCode (λ a. InputPromise datagram.now link.old
+    ensures { Gives answer_code (λ a. InputPromise datagram.now link.old
         (parts_of send_pool.now receive_pool.old table.old acks.old)
         a link.new
         (parts_of send_pool.now receive_pool.new table.new acks.new)) result }
@@ -101,11 +101,11 @@ pub extern "C" fn ampferweg_flush(
     output: &mut [u8],
     lengths: &mut [u16],
 ) -> i32
-    ensures { Gives countCode (λ a. FlushPromise t link.old
+    ensures { Gives count_code (λ a. FlushPromise t link.old
         (parts_of send_pool.now receive_pool.now table.old acks.now)
-        (flushPartsOf output.old lengths.old) a link.new
+        (flush_parts_of output.old lengths.old) a link.new
         (parts_of send_pool.now receive_pool.now table.new acks.now)
-        (flushPartsOf output.new lengths.new)) result }
+        (flush_parts_of output.new lengths.new)) result }
 {
     let paced = results::at_once();
     write_out::write_out(
@@ -133,11 +133,11 @@ pub extern "C" fn ampferweg_update(
     output: &mut [u8],
     lengths: &mut [u16],
 ) -> i32
-    ensures { Gives updateCode (λ a. UpdatePromise t link.old
+    ensures { Gives update_code (λ a. UpdatePromise t link.old
         (parts_of send_pool.now receive_pool.now table.old acks.now)
-        (flushPartsOf output.old lengths.old) a link.new
+        (flush_parts_of output.old lengths.old) a link.new
         (parts_of send_pool.now receive_pool.now table.new acks.now)
-        (flushPartsOf output.new lengths.new)) result }
+        (flush_parts_of output.new lengths.new)) result }
 {
     let paced = results::by_schedule();
     write_out::write_out(
@@ -164,7 +164,7 @@ pub extern "C" fn ampferweg_check(
     t: u32,
     when: &mut u32,
 ) -> i32
-    ensures { Gives timeCode (λ a. TimePromise t link.now
+    ensures { Gives time_code (λ a. TimePromise t link.now
         (parts_of send_pool.now receive_pool.now table.now acks.now) a
         when.old when.new) result }
 {
@@ -181,7 +181,7 @@ pub extern "C" fn ampferweg_read(
     acks: &[u32],
     buffer: &mut [u8],
 ) -> i32
-    ensures { Gives countCode (λ a. ReadPromise link.old
+    ensures { Gives count_code (λ a. ReadPromise link.old
         (parts_of send_pool.now receive_pool.now table.now acks.now)
         buffer.old a link.new
         (parts_of send_pool.now receive_pool.now table.now acks.now)
@@ -199,7 +199,7 @@ pub extern "C" fn ampferweg_size(
     table: &[Record],
     acks: &[u32],
 ) -> i32
-    ensures { Gives countCode (λ a. SizePromise link.now
+    ensures { Gives count_code (λ a. SizePromise link.now
         (parts_of send_pool.now receive_pool.now table.now acks.now) a) result }
 {
     asks::size(link, send_pool, receive_pool, table, acks)
@@ -216,7 +216,7 @@ pub extern "C" fn ampferweg_show(
     acks: &[u32],
     start: &mut u32,
 ) -> i32
-    ensures { Gives placeCode (λ a. PlacePromise link.now
+    ensures { Gives place_code (λ a. PlacePromise link.now
         (parts_of send_pool.now receive_pool.now table.now acks.now) a start.new) result }
 {
     asks::show(link, send_pool, receive_pool, table, acks, start)
@@ -225,7 +225,7 @@ pub extern "C" fn ampferweg_show(
 // The bytes of the control block that these functions have, for a host that compares them with its header's.
 #[unsafe(no_mangle)]
 pub extern "C" fn ampferweg_block_size() -> u32
-    ensures { result ≡ blockSize }
+    ensures { result ≡ block_size }
 {
     archive::block_size()
 }
@@ -233,7 +233,7 @@ pub extern "C" fn ampferweg_block_size() -> u32
 // The version of these functions, as one number.
 #[unsafe(no_mangle)]
 pub extern "C" fn ampferweg_version_number() -> u32
-    ensures { result ≡ versionNumber }
+    ensures { result ≡ version_number }
 {
     archive::version_number()
 }

@@ -1,8 +1,8 @@
 // Settings files for C: a number below zero is a refusal's.
-ghost use Rattle.codes.specs.Codes.{settingsOf};
+ghost use Rattle.codes.specs.Codes.{settings_of};
 ghost use Rattle.codes.specs.Gives.{Gives};
-ghost use Rattle.settings_file.specs.Files.{Writes, readFrom};
-ghost use Rattle.settings_calls.specs.SettingsFiles.{writingCode, numbers, Stores};
+ghost use Rattle.settings_file.specs.Files.{Writes, read_from};
+ghost use Rattle.settings_calls.specs.SettingsFiles.{writing_code, numbers, Stores};
 
 // Writes the file of these settings at the start of a part: its count of bytes, or the refusal.
 #[unsafe(no_mangle)]
@@ -16,8 +16,8 @@ pub extern "C" fn ampferweg_settings_write(
     congestion: u32,
     file: &mut [u8],
 ) -> i32
-    ensures { Gives writingCode
-        (λ a. Writes (settingsOf conv mtu mode interval threshold stream congestion) file.old a file.new) result }
+    ensures { Gives writing_code
+        (λ a. Writes (settings_of conv mtu mode interval threshold stream congestion) file.old a file.new) result }
 {
     settings_calls::write(
         conv, mtu, mode, interval, threshold, stream, congestion, file,
@@ -36,7 +36,7 @@ pub extern "C" fn ampferweg_settings_read(
     stream: &mut u32,
     congestion: &mut u32,
 ) -> i32
-    ensures { Stores (readFrom file.now) result
+    ensures { Stores (read_from file.now) result
         (numbers conv.old mtu.old mode.old interval.old threshold.old
         stream.old congestion.old)
         (numbers conv.new mtu.new mode.new interval.new threshold.new

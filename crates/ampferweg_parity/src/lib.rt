@@ -1,21 +1,21 @@
 // Parity for C: groups written and read. A number below zero is a refusal's.
 ghost use Rattle.std.specs.Prelude.{◌≡◌, length};
-ghost use Rattle.frames.specs.Outcomes.{writeOf};
+ghost use Rattle.frames.specs.Outcomes.{write_of};
 ghost use Rattle.frames.specs.Reading.{read_of};
-ghost use Rattle.ampferweg_parity.specs.Told.{countCode, answerCode, Told};
+ghost use Rattle.ampferweg_parity.specs.Told.{count_code, answer_code, Told};
 
 use frames::Answer;
 
 // A count of frames or datagrams; no group has more than 12.
 fn count_code(n: usize) -> i32
-    ensures { result ≡ countCode n }
+    ensures { result ≡ count_code n }
 {
     if n <= 12 { n as i32 } else { 12 }
 }
 
 // The count, or the refusal.
 fn answer_code(answer: Answer) -> i32
-    ensures { result ≡ answerCode answer }
+    ensures { result ≡ answer_code answer }
 {
     match answer {
         Answer::Written(n) => count_code(n),
@@ -35,7 +35,7 @@ pub extern "C" fn ampferweg_parity_write(
     out_lengths: &mut [u16],
 ) -> i32
     ensures { Told
-        (writeOf group k mtu datagrams.now lengths.now
+        (write_of group k mtu datagrams.now lengths.now
         (length out.old) (length out_lengths.old))
         out.old out_lengths.old result out.new out_lengths.new }
 {

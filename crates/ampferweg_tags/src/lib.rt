@@ -1,10 +1,10 @@
 // Tags for C: tag messages and tables of tags. A number below zero is a refusal's.
 ghost use Rattle.std.specs.Prelude.{◌≡◌};
-ghost use Rattle.codes.specs.Codes.{numberCode};
+ghost use Rattle.codes.specs.Codes.{number_code};
 ghost use Rattle.tag_message.specs.Tags.{number_of};
-ghost use Rattle.tag_message.specs.Messages.{readFrom};
-ghost use Rattle.tag_find.specs.Findings.{findIn, foundBy};
-ghost use Rattle.ampferweg_tags.specs.TagCodes.{changingCode, presenceCode, TellsWriting, Stores};
+ghost use Rattle.tag_message.specs.Messages.{read_from};
+ghost use Rattle.tag_find.specs.Findings.{find_in, found_by};
+ghost use Rattle.ampferweg_tags.specs.TagCodes.{changing_code, presence_code, TellsWriting, Stores};
 ghost use Rattle.ampferweg_tags.specs.TagCodes.{TellsSet, TellsTake, TellsRemove, TellsPlace};
 
 use tag_find::{Finding, Presence};
@@ -12,14 +12,14 @@ use tag_message::{Reading, TagRefusal, Writing};
 use tag_table::Changing;
 
 fn refusal_code(refusal: TagRefusal) -> i32
-    ensures { result ≡ numberCode (number_of refusal) }
+    ensures { result ≡ number_code (number_of refusal) }
 {
     codes::number_code(refusal.number())
 }
 
 // 0, or the refusal.
 fn changing_code(changing: Changing) -> i32
-    ensures { result ≡ changingCode changing }
+    ensures { result ≡ changing_code changing }
 {
     match changing {
         Changing::Done => 0,
@@ -29,7 +29,7 @@ fn changing_code(changing: Changing) -> i32
 
 // 1, 0, or the refusal.
 fn presence_code(presence: Presence) -> i32
-    ensures { result ≡ presenceCode presence }
+    ensures { result ≡ presence_code presence }
 {
     match presence {
         Presence::Found => 1,
@@ -56,7 +56,7 @@ pub extern "C" fn ampferweg_tag_read(
     name_len: &mut usize,
     value_len: &mut usize,
 ) -> i32
-    ensures { Stores (readFrom message.now) result
+    ensures { Stores (read_from message.now) result
         name_len.old value_len.old name_len.new value_len.new }
 {
     match tag_message::read(message) {
@@ -106,7 +106,7 @@ pub extern "C" fn ampferweg_tag_ask(
     start: &mut usize,
     len: &mut usize,
 ) -> i32
-    ensures { TellsPlace (findIn own.now defaults.now name.now) result start.new
+    ensures { TellsPlace (find_in own.now defaults.now name.now) result start.new
         len.new }
 {
     match tag_find::find(own, defaults, name) {
@@ -136,7 +136,7 @@ pub extern "C" fn ampferweg_tag_ask(
 // Whether a name is found: 1, 0, or the refusal.
 #[unsafe(no_mangle)]
 pub extern "C" fn ampferweg_tag_found(own: &[u8], defaults: &[u8], name: &[u8]) -> i32
-    ensures { result ≡ presenceCode (foundBy (findIn own.now defaults.now name.now)) }
+    ensures { result ≡ presence_code (found_by (find_in own.now defaults.now name.now)) }
 {
     let presence = tag_find::found(own, defaults, name);
     presence_code(presence)

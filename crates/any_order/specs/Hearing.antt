@@ -11,9 +11,9 @@ use Rattle.answers.specs.declared.Answer.{Answer}
 use Rattle.answers.specs.declared.Answer.TheVariants as answer
 use Rattle.answers.specs.declared.Count.{Count}
 use Rattle.answers.specs.declared.Update.{Update}
-use Rattle.promises.specs.Parts.{Parts, FlushParts, stateIn}
+use Rattle.promises.specs.Parts.{Parts, FlushParts, state_in}
 use Rattle.promises.specs.Promises.{SendPromise, InputPromise, FlushPromise, UpdatePromise, ReadPromise}
-use Rattle.any_order.specs.Numbers.{of_all, numbersIn}
+use Rattle.any_order.specs.Numbers.{of_all, numbers_in}
 
 -- ---- what was heard
 
@@ -23,16 +23,16 @@ pub record Heard : Type 0 where
   pub answer : Answer
 
 -- the una and ack numbers of a datagram that is accepted; a refused one has none
-abbrev pub numbersParsed : Answer → Parsed → List Acknowledges
-numbersParsed answer.Accepted (Parsed.segments gs) = numbersIn gs
-numbersParsed answer.Accepted (Parsed.refused r) = []
-numbersParsed (answer.Refused r) x = []
+abbrev pub numbers_parsed : Answer → Parsed → List Acknowledges
+numbers_parsed answer.Accepted (Parsed.segments gs) = numbers_in gs
+numbers_parsed answer.Accepted (Parsed.refused r) = []
+numbers_parsed (answer.Refused r) x = []
 
-abbrev pub numbersOne : Settings → Heard → List Acknowledges
-numbersOne c h = numbersParsed h.answer (parse c.conv (mss c) h.datagram)
+abbrev pub numbers_one : Settings → Heard → List Acknowledges
+numbers_one c h = numbers_parsed h.answer (parse c.conv (mss c) h.datagram)
 
-abbrev pub numbersHeard : Settings → List Heard → List Acknowledges
-numbersHeard c = of_all (numbersOne c)
+abbrev pub numbers_heard : Settings → List Heard → List Acknowledges
+numbers_heard c = of_all (numbers_one c)
 
 -- ---- what may stand between two datagrams
 
@@ -68,15 +68,15 @@ pub data Hears (between : Between) : Link → Parts → List Heard → Link → 
 -- ---- the claim
 
 -- the outstanding segments of a block with its parts: the words of the block, with the records of the table
-abbrev pub outstandingIn : Link → Parts → List Sent
-outstandingIn l p = (stateIn l p).sending.outstanding
+abbrev pub outstanding_in : Link → Parts → List Sent
+outstanding_in l p = (state_in l p).sending.outstanding
 
 -- two blocks with their parts have the same snd_una, the same snd_nxt, and the same outstanding segments by what is seen of each
 pub record SameInFlight (see : Sent → Sent) (l₁ : Link) (p₁ : Parts) (l₂ : Link) (p₂ : Parts) : Type 0 where
   pub una : l₁.flight.una ≡ l₂.flight.una
   pub next : l₁.flight.next ≡ l₂.flight.next
-  pub outstanding : map see (outstandingIn l₁ p₁) ≡ map see (outstandingIn l₂ p₂)
+  pub outstanding : map see (outstanding_in l₁ p₁) ≡ map see (outstanding_in l₂ p₂)
 
 -- their numbers alone
-abbrev pub outstandingNumbers : Link → Parts → List ℕ
-outstandingNumbers l p = map (λ (x : Sent). x.record.number) (outstandingIn l p)
+abbrev pub outstanding_numbers : Link → Parts → List ℕ
+outstanding_numbers l p = map (λ (x : Sent). x.record.number) (outstanding_in l p)

@@ -14,8 +14,8 @@ use Rattle.any_order.specs.Removing.{InFlight}
 -- ---- the numbers, as they are taken
 
 -- of a segment: its una, then its sn where it is an ack
-abbrev pub numbersOf : Header → List Acknowledges
-numbersOf h = by.Una h.una ∷ cond (eqb h.cmd ack) (by.Ack h.sn ∷ []) []
+abbrev pub numbers_of : Header → List Acknowledges
+numbers_of h = by.Una h.una ∷ cond (eqb h.cmd ack) (by.Ack h.sn ∷ []) []
 
 -- of all members of a list
 unfoldable pub of_all : {A : Type 0} → (A → List Acknowledges) → List A → List Acknowledges
@@ -23,22 +23,22 @@ of_all numbers [] = []
 of_all numbers (x ∷ l) = numbers x ++ of_all numbers l
 
 -- of the segments of a datagram
-abbrev pub numbersIn : List Segment → List Acknowledges
-numbersIn = of_all (λ (g : Segment). numbersOf g.header)
+abbrev pub numbers_in : List Segment → List Acknowledges
+numbers_in = of_all (λ (g : Segment). numbers_of g.header)
 
 -- of datagrams, each given by its segments
-abbrev pub numbersInAll : List (List Segment) → List Acknowledges
-numbersInAll = of_all numbersIn
+abbrev pub numbers_in_all : List (List Segment) → List Acknowledges
+numbers_in_all = of_all numbers_in
 
 -- datagrams taken in one after the other, with no other call between
-unfoldable pub appliedAll : Took → List (List Segment) → Took
-appliedAll x [] = x
-appliedAll x (gs ∷ l) = appliedAll (applied x.state x.pool gs) l
+unfoldable pub applied_all : Took → List (List Segment) → Took
+applied_all x [] = x
+applied_all x (gs ∷ l) = applied_all (applied x.state x.pool gs) l
 
 -- ---- what is claimed of a sending half: snd_una, snd_nxt, and what is seen of each outstanding segment
 
-abbrev pub seenBy : (Sent → Sent) → Sending → InFlight
-seenBy see s = record { una = s.una; next = s.next; outstanding = map see s.outstanding }
+abbrev pub seen_by : (Sent → Sent) → Sending → InFlight
+seen_by see s = record { una = s.una; next = s.next; outstanding = map see s.outstanding }
 
 -- all of a segment but its skip count: number, slot, length, fragment number, transmissions, due time and timeout
 abbrev pub unskipped : Sent → Sent

@@ -2,11 +2,11 @@
 -- Assumes nothing.
 use Rattle.std.specs.Prelude.{◌≡◌, ◌↔◌, Bool, true, not, ◌&&◌, ℕ, eqb}
 use mathlib.Core.List.{List, [], ◌∷◌, ◌++◌, Memᴰ}
-use Rattle.protocol.specs.Serial.{isAfter}
+use Rattle.protocol.specs.Serial.{is_after}
 use Rattle.lists.specs.declared.Sent.{Sent}
 use Rattle.lists.specs.declared.Acknowledges.{Acknowledges}
 use Rattle.lists.specs.declared.Acknowledges.TheVariants.{Una, Ack}
-use Rattle.lists.specs.Acknowledging.{acknowledged, filter, firstNumberOr}
+use Rattle.lists.specs.Acknowledging.{acknowledged, filter, first_number_or}
 
 -- what such a rule reads and changes: snd_una, snd_nxt and the outstanding segments. Nothing else of a link's state is in it
 pub record InFlight : Type 0 where
@@ -21,13 +21,13 @@ abbrev pub Rule : Type 0
 Rule = ℕ → Acknowledges → ℕ → Bool
 
 -- document 01: una removes every number that it is after, an ack the number that it names
-abbrev pub everyBefore : Rule
-everyBefore next (Una una) n = not (isAfter una n)
-everyBefore next (Ack sn) n = not (eqb n sn)
+abbrev pub every_before : Rule
+every_before next (Una una) n = not (is_after una n)
+every_before next (Ack sn) n = not (eqb n sn)
 
 -- request 2026-02: the same, but a una after snd_nxt removes none. This is the link's own rule
-abbrev pub unlessAhead : Rule
-unlessAhead next arrival n = not (acknowledged next arrival n)
+abbrev pub unless_ahead : Rule
+unless_ahead next arrival n = not (acknowledged next arrival n)
 
 -- ---- removing
 
@@ -35,15 +35,15 @@ unlessAhead next arrival n = not (acknowledged next arrival n)
 abbrev pub staying : (ℕ → Bool) → InFlight → InFlight
 staying test s =
     record {
-      una = firstNumberOr (filter test s.outstanding) s.next;
+      una = first_number_or (filter test s.outstanding) s.next;
       next = s.next;
       outstanding = filter test s.outstanding;
     }
 
 -- a number passes the tests of all that arrives
-abbrev pub passesAll : Rule → ℕ → List Acknowledges → ℕ → Bool
-passesAll rule next [] n = true
-passesAll rule next (a ∷ l) n = rule next a n && passesAll rule next l n
+abbrev pub passes_all : Rule → ℕ → List Acknowledges → ℕ → Bool
+passes_all rule next [] n = true
+passes_all rule next (a ∷ l) n = rule next a n && passes_all rule next l n
 
 -- numbers taken one after the other, each by the snd_nxt that is there
 unfoldable pub takes : Rule → InFlight → List Acknowledges → InFlight
@@ -60,8 +60,8 @@ SameMembers {A} xs ys = (a : A) → Memᴰ a xs ↔ Memᴰ a ys
 -- the same outstanding segments and the same snd_una; two lists one after the other are the joined list; and snd_nxt stays
 pub record AnyOrder (rule : Rule) : Type 0 where
   pub at_once : (s : InFlight) (a : Acknowledges) (l : List Acknowledges)
-      → takes rule s (a ∷ l) ≡ staying (passesAll rule s.next (a ∷ l)) s
+      → takes rule s (a ∷ l) ≡ staying (passes_all rule s.next (a ∷ l)) s
   pub any_order : (s : InFlight) (xs ys : List Acknowledges) → SameMembers xs ys → takes rule s xs ≡ takes rule s ys
   pub twice : (s : InFlight) (xs : List Acknowledges) → takes rule s (xs ++ xs) ≡ takes rule s xs
   pub joined : (s : InFlight) (xs ys : List Acknowledges) → takes rule (takes rule s xs) ys ≡ takes rule s (xs ++ ys)
-  pub next-stays : (s : InFlight) (xs : List Acknowledges) → (takes rule s xs).next ≡ s.next
+  pub next_stays : (s : InFlight) (xs : List Acknowledges) → (takes rule s xs).next ≡ s.next

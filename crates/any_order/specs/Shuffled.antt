@@ -3,22 +3,22 @@
 -- Assumes nothing.
 use Rattle.std.specs.Prelude.{◌≡◌, refl, ℕ}
 use mathlib.Core.List.{List, [], ◌∷◌, ◌++◌, map, Memᴰ}
-use Rattle.protocol.specs.Protocol.{ack, windowTell}
-use Rattle.protocol.specs.Serial.{signed, isBefore, isAfter, isDue}
+use Rattle.protocol.specs.Protocol.{ack, window_tell}
+use Rattle.protocol.specs.Serial.{signed, is_before, is_after, is_due}
 use Rattle.protocol.specs.declared.Settings.{Settings}
 use Rattle.datagram.specs.Datagrams.{Segment}
-use Rattle.timing.specs.RoundTrips.{nextSmoothed, nextVariation, leastTimeout, timeoutOf, sampled}
-use Rattle.retransmission.specs.Transmissions.{firstDue, growth, longerTimeout, isSkipped, transmission}
+use Rattle.timing.specs.RoundTrips.{next_smoothed, next_variation, least_timeout, timeout_of, sampled}
+use Rattle.retransmission.specs.Transmissions.{first_due, growth, longer_timeout, is_skipped, transmission}
 use Rattle.lists.specs.declared.Held.{Held}
 use Rattle.lists.specs.declared.Sent.{Sent}
-use Rattle.lists.specs.Acknowledging.{select, firstNumberOr, skipBefore}
-use Rattle.session.specs.State.{State, Sending, withQueued}
+use Rattle.lists.specs.Acknowledging.{select, first_number_or, skip_before}
+use Rattle.session.specs.State.{State, Sending, with_queued}
 use Rattle.session.specs.Opening.{opened}
-use Rattle.congestion.specs.Congestions.{usedWindow}
-use Rattle.session.specs.Flushing.{numbered, numberedCount, withNumbered, flushing}
-use Rattle.session.specs.Input.{acknowledged, sampledBy, heardBySending, allBySending, ackNumbers, furthest, skipped, applied}
-use Rattle.any_order.specs.Numbers.{numbersIn, appliedAll, seenBy, unskipped}
-use Rattle.any_order.specs.NumberLaws.{same-of-all, same-in-any-order}
+use Rattle.congestion.specs.Congestions.{used_window}
+use Rattle.session.specs.Flushing.{numbered, numbered_count, with_numbered, flushing}
+use Rattle.session.specs.Input.{acknowledged, sampled_by, heard_by_sending, all_by_sending, ack_numbers, furthest, skipped, applied}
+use Rattle.any_order.specs.Numbers.{numbers_in, applied_all, seen_by, unskipped}
+use Rattle.any_order.specs.NumberLaws.{same_of_all, same_in_any_order}
 
 -- ---- the link
 
@@ -30,7 +30,7 @@ held slot = record { slot = slot; len = 1; fragment = 0 }
 
 -- four messages of one byte, sent by a flush at 100; a flush at 160 sends nothing
 unfoldable pub sent : State
-sent = (flushing (flushing (withQueued (opened c) (held 0 ∷ held 1 ∷ held 2 ∷ held 3 ∷ [])) 100 []).state 160 []).state
+sent = (flushing (flushing (with_queued (opened c) (held 0 ∷ held 1 ∷ held 2 ∷ held 3 ∷ [])) 100 []).state 160 []).state
 
 -- ---- the datagrams
 
@@ -46,23 +46,23 @@ abbrev pub ack2 : List Segment
 ack2 = segment ack 50 60 2 0 ∷ []
 
 abbrev pub una1 : List Segment
-una1 = segment windowTell 60 0 0 1 ∷ []
+una1 = segment window_tell 60 0 0 1 ∷ []
 
 -- the sending half after these datagrams
 unfoldable pub after : List (List Segment) → Sending
-after l = (appliedAll (record { state = sent; pool = [] }) l).state.sending
+after l = (applied_all (record { state = sent; pool = [] }) l).state.sending
 
-abbrev pub inOrder : List (List Segment)
-inOrder = ack3 ∷ ack2 ∷ una1 ∷ []
+abbrev pub in_order : List (List Segment)
+in_order = ack3 ∷ ack2 ∷ una1 ∷ []
 
 abbrev pub reversed : List (List Segment)
 reversed = una1 ∷ ack2 ∷ ack3 ∷ []
 
-abbrev pub oneTwice : List (List Segment)
-oneTwice = ack3 ∷ ack2 ∷ una1 ∷ ack3 ∷ []
+abbrev pub one_twice : List (List Segment)
+one_twice = ack3 ∷ ack2 ∷ una1 ∷ ack3 ∷ []
 
-abbrev pub asOne : List (List Segment)
-asOne = (ack3 ++ (ack2 ++ una1)) ∷ []
+abbrev pub as_one : List (List Segment)
+as_one = (ack3 ++ (ack2 ++ una1)) ∷ []
 
 -- ---- by the theorem
 
@@ -71,11 +71,11 @@ turned x y z a (Memᴰ.head e) = Memᴰ.tail (Memᴰ.tail (Memᴰ.head e))
 turned x y z a (Memᴰ.tail (Memᴰ.head e)) = Memᴰ.tail (Memᴰ.head e)
 turned x y z a (Memᴰ.tail (Memᴰ.tail (Memᴰ.head e))) = Memᴰ.head e
 
-pub same_left : seenBy unskipped (after inOrder) ≡ seenBy unskipped (after reversed)
+pub same_left : seen_by unskipped (after in_order) ≡ seen_by unskipped (after reversed)
 unfolding after
 same_left =
-    same-in-any-order (record { state = sent; pool = [] }) inOrder reversed
-    (same-of-all numbersIn inOrder reversed (λ a. (turned ack3 ack2 una1 a, turned una1 ack2 ack3 a)))
+    same_in_any_order (record { state = sent; pool = [] }) in_order reversed
+    (same_of_all numbers_in in_order reversed (λ a. (turned ack3 ack2 una1 a, turned una1 ack2 ack3 a)))
 
 -- ---- by computing
 
@@ -93,19 +93,19 @@ seen s =
       una = s.una;
       skips = map (λ (x : Sent). x.record.skips) s.outstanding;
       window = s.window;
-      smoothed = s.roundTrip.smoothed;
+      smoothed = s.round_trip.smoothed;
     }
 
 -- four are outstanding at first; then always 1 alone, and snd_una is 1. The peer's window and the smoothed time go by the order; the skip
 -- count of segment 1 by how many datagrams with a later ack come
-pub seen-after :
+pub seen_after_lem :
     (seen sent.sending ≡ record { numbers = 0 ∷ 1 ∷ 2 ∷ 3 ∷ []; una = 0; skips = 0 ∷ 0 ∷ 0 ∷ 0 ∷ []; window = 128; smoothed = 0 })
-    × (seen (after inOrder) ≡ record { numbers = 1 ∷ []; una = 1; skips = 2 ∷ []; window = 60; smoothed = 65 })
+    × (seen (after in_order) ≡ record { numbers = 1 ∷ []; una = 1; skips = 2 ∷ []; window = 60; smoothed = 65 })
     × (seen (after reversed) ≡ record { numbers = 1 ∷ []; una = 1; skips = 2 ∷ []; window = 40; smoothed = 95 })
-    × (seen (after oneTwice) ≡ record { numbers = 1 ∷ []; una = 1; skips = 3 ∷ []; window = 40; smoothed = 64 })
-    × (seen (after asOne) ≡ record { numbers = 1 ∷ []; una = 1; skips = 1 ∷ []; window = 60; smoothed = 65 })
-unfolding sent after appliedAll opened flushing usedWindow numbered numberedCount withNumbered firstDue growth longerTimeout isSkipped
+    × (seen (after one_twice) ≡ record { numbers = 1 ∷ []; una = 1; skips = 3 ∷ []; window = 40; smoothed = 64 })
+    × (seen (after as_one) ≡ record { numbers = 1 ∷ []; una = 1; skips = 1 ∷ []; window = 60; smoothed = 65 })
+unfolding sent after applied_all opened flushing used_window numbered numbered_count with_numbered first_due growth longer_timeout is_skipped
     transmission
-    applied acknowledged heardBySending allBySending ackNumbers furthest skipped sampledBy sampled nextSmoothed nextVariation
-    leastTimeout timeoutOf select firstNumberOr skipBefore signed isBefore isAfter isDue
-seen-after = (refl, refl, refl, refl, refl)
+    applied acknowledged heard_by_sending all_by_sending ack_numbers furthest skipped sampled_by sampled next_smoothed next_variation
+    least_timeout timeout_of select first_number_or skip_before signed is_before is_after is_due
+seen_after_lem = (refl, refl, refl, refl, refl)

@@ -4,7 +4,7 @@ use mathlib.Core.Path.{◌≡◌, refl}
 use denote.Memory.{lone}
 use prog.Memory.{size}
 use Rattle.lending.proofs.Block.{L}
-use Rattle.archive.specs.Blocks.{blockSize}
+use Rattle.archive.specs.Blocks.{block_size}
 
-is-size : size (lone L.mir) ≡ blockSize
-is-size = refl
+is_size : size (lone L.mir) ≡ block_size
+is_size = refl

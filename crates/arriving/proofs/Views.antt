@@ -7,40 +7,40 @@ use native.Mathlib.Omega.{arith}
 use lib.ListN.{length, take, drop, length-map}
 use lib.Seq.{length-take-le}
 use Rattle.lists.specs.declared.Held.{Held}
-use Rattle.lists.specs.Views.{held_of, waitingOf, waitingPart}
-use Rattle.words.specs.Words.{unpack, heldIn, paired, waitingAt, waitingIn}
-use Rattle.words.proofs.Pairs.{paired-take}
-use Rattle.arriving.specs.Arrivals.{readyList, waitingList}
+use Rattle.lists.specs.Views.{held_of, waiting_of, waiting_part}
+use Rattle.words.specs.Words.{unpack, held_in, paired, waiting_at, waiting_in}
+use Rattle.words.proofs.Pairs.{paired_take}
+use Rattle.arriving.specs.Arrivals.{ready_list, waiting_list}
 
-pub take-map : {A B : Type 0} (f : A → B) (n : ℕ) (l : List A) → take n (map f l) ≡ map f (take n l)
-take-map f zero l = refl
-take-map f (suc n) [] = refl
-take-map f (suc n) (x ∷ l) = ap (λ (r : List _). f x ∷ r) (take-map f n l)
+pub take_map : {A B : Type 0} (f : A → B) (n : ℕ) (l : List A) → take n (map f l) ≡ map f (take n l)
+take_map f zero l = refl
+take_map f (suc n) [] = refl
+take_map f (suc n) (x ∷ l) = ap (λ (r : List _). f x ∷ r) (take_map f n l)
 
-pub drop-map : {A B : Type 0} (f : A → B) (n : ℕ) (l : List A) → drop n (map f l) ≡ map f (drop n l)
-drop-map f zero l = refl
-drop-map f (suc n) [] = refl
-drop-map f (suc n) (x ∷ l) = drop-map f n l
+pub drop_map : {A B : Type 0} (f : A → B) (n : ℕ) (l : List A) → drop n (map f l) ≡ map f (drop n l)
+drop_map f zero l = refl
+drop_map f (suc n) [] = refl
+drop_map f (suc n) (x ∷ l) = drop_map f n l
 
-pub held-length : (words : List ℕ) (n : ℕ) → n ≤ length words → length (heldIn words n) ≡ n
-held-length words n h = length-map (take n words) unpack ∙ length-take-le n words h
+pub held_length : (words : List ℕ) (n : ℕ) → n ≤ length words → length (held_in words n) ≡ n
+held_length words n h = length-map (take n words) unpack ∙ length-take-le n words h
 
 -- the segments of words, without their numbers
-paired-parts : (ws ns : List ℕ) → length ws ≡ length ns → map waitingPart (paired waitingAt ws ns) ≡ map unpack ws
+paired_parts : (ws ns : List ℕ) → length ws ≡ length ns → map waiting_part (paired waiting_at ws ns) ≡ map unpack ws
 unfolding paired
-paired-parts [] ns e = refl
-paired-parts (w ∷ ws) [] e = absurd (omega arith)
-paired-parts (w ∷ ws) (n ∷ ns) e = ap (λ (r : List Held). unpack w ∷ r) (paired-parts ws ns (omega arith))
+paired_parts [] ns e = refl
+paired_parts (w ∷ ws) [] e = absurd (omega arith)
+paired_parts (w ∷ ws) (n ∷ ns) e = ap (λ (r : List Held). unpack w ∷ r) (paired_parts ws ns (omega arith))
 
 -- the lists are those of the block
-pub ready-view : (words : List ℕ) (n : ℕ) → held_of (readyList words n) ≡ heldIn words n
-ready-view words n = take-map unpack n words
+pub ready_view : (words : List ℕ) (n : ℕ) → held_of (ready_list words n) ≡ held_in words n
+ready_view words n = take_map unpack n words
 
-pub waiting-view : (words numbers : List ℕ) (n : ℕ) → waitingOf (waitingList words numbers n) ≡ waitingIn words numbers n
-waiting-view words numbers n = sym (paired-take waitingAt n words numbers)
+pub waiting_view : (words numbers : List ℕ) (n : ℕ) → waiting_of (waiting_list words numbers n) ≡ waiting_in words numbers n
+waiting_view words numbers n = sym (paired_take waiting_at n words numbers)
 
-pub waiting-parts : (words numbers : List ℕ) (n : ℕ) → length words ≡ 128 → length numbers ≡ 128 → n ≤ 128
-    → map waitingPart (take n (paired waitingAt words numbers)) ≡ heldIn words n
-waiting-parts words numbers n e f h =
-    ap (map waitingPart) (sym (paired-take waitingAt n words numbers))
-    ∙ paired-parts (take n words) (take n numbers) (length-take-le n words (omega arith) ∙ sym (length-take-le n numbers (omega arith)))
+pub waiting_parts : (words numbers : List ℕ) (n : ℕ) → length words ≡ 128 → length numbers ≡ 128 → n ≤ 128
+    → map waiting_part (take n (paired waiting_at words numbers)) ≡ held_in words n
+waiting_parts words numbers n e f h =
+    ap (map waiting_part) (sym (paired_take waiting_at n words numbers))
+    ∙ paired_parts (take n words) (take n numbers) (length-take-le n words (omega arith) ∙ sym (length-take-le n numbers (omega arith)))

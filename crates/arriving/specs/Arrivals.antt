@@ -8,45 +8,45 @@ use Rattle.lists.specs.declared.WaitingList.{WaitingList}
 use Rattle.lists.specs.declared.Receiving as lists
 use Rattle.lists.specs.Receiving as receiving
 use Rattle.session.specs.State.{Ack}
-use Rattle.session.specs.Reading.{frontCount, afterRead}
-use Rattle.words.specs.Words.{unpack, heldIn, paired, waitingAt}
-use Rattle.control.specs.Views.{receivingOf}
+use Rattle.session.specs.Reading.{front_count, after_read}
+use Rattle.words.specs.Words.{unpack, held_in, paired, waiting_at}
+use Rattle.control.specs.Views.{receiving_of}
 use Rattle.control.specs.declared.Arrival.{Arrival}
 
 -- the lists that the arrays hold
-abbrev pub readyList : List ℕ → ℕ → HeldList
-readyList words n = record { at = map unpack words; count = n }
+abbrev pub ready_list : List ℕ → ℕ → HeldList
+ready_list words n = record { at = map unpack words; count = n }
 
-abbrev pub waitingList : List ℕ → List ℕ → ℕ → WaitingList
-waitingList words numbers n = record { at = paired waitingAt words numbers; count = n }
+abbrev pub waiting_list : List ℕ → List ℕ → ℕ → WaitingList
+waiting_list words numbers n = record { at = paired waiting_at words numbers; count = n }
 
 abbrev pub lists_of : Arrival → List ℕ → List ℕ → List ℕ → lists.Receiving
 lists_of a ready waiting numbers =
-    record { next = a.expected; ready = readyList ready a.ready; waiting = waitingList waiting numbers a.waiting }
+    record { next = a.expected; ready = ready_list ready a.ready; waiting = waiting_list waiting numbers a.waiting }
 
 -- the half's arrays have their lengths
 pub record WholeLists (ready waiting numbers : List ℕ) : Type 0 where
   pub whole_ready : length ready ≡ 128
-  pub whole-waiting : length waiting ≡ 128
+  pub whole_waiting : length waiting ≡ 128
   pub whole_numbers : length numbers ≡ 128
 
 -- the counts are within the arrays
 pub record Fits (a : Arrival) : Type 0 where
-  pub few-ready : a.ready ≤ 128
-  pub few-waiting : a.waiting ≤ 128
+  pub few_ready : a.ready ≤ 128
+  pub few_waiting : a.waiting ≤ 128
 
 -- r with the arrays is what advancing makes of these lists; acks and tell are as they were in a
 pub record Advanced (a : Arrival) (next : ℕ) (held : List Held) (waits : List Waiting) (r : Arrival) (ready waiting numbers : List ℕ) : Type
     0 where
   pub whole : WholeLists ready waiting numbers
   pub is : receiving.ReceivingIs (lists_of r ready waiting numbers) (receiving.advance next held waits)
-  pub same-acks : r.acks ≡ a.acks
-  pub same-tell : r.tell ≡ a.tell
+  pub same_acks : r.acks ≡ a.acks
+  pub same_tell : r.tell ≡ a.tell
 
 -- the first k ready segments are freed: where the front message has k segments, r is the half after reading it
 pub record Freed (a : Arrival) (k : ℕ) (ready waiting numbers : List ℕ) (r : Arrival) (ready' waiting' numbers' : List ℕ) : Type 0 where
   pub whole : WholeLists ready' waiting' numbers'
   pub counts : Fits r
-  pub same-acks : r.acks ≡ a.acks
-  pub reads : (acks : List Ack) → frontCount (heldIn ready a.ready) ≡ k
-      → receivingOf r ready' waiting' numbers' acks ≡ afterRead (receivingOf a ready waiting numbers acks)
+  pub same_acks : r.acks ≡ a.acks
+  pub reads : (acks : List Ack) → front_count (held_in ready a.ready) ≡ k
+      → receiving_of r ready' waiting' numbers' acks ≡ after_read (receiving_of a ready waiting numbers acks)

@@ -1,10 +1,10 @@
 // The lists of the receiving half in place: waiting segments become ready; the segments of a message that was read are freed.
 ghost use Rattle.std.specs.Prelude.{◌≡◌, ◌&&◌, ◌||◌, List, ◌++◌, ℕ, ◌+◌, ◌≤◌, min, take, length, eqb, ltb};
 ghost use Rattle.lists.specs.Receiving.{run_of};
-ghost use Rattle.lists.specs.Views.{held_of, waitingOf};
-ghost use Rattle.words.specs.Words.{paired, waitingAt, Front};
+ghost use Rattle.lists.specs.Views.{held_of, waiting_of};
+ghost use Rattle.words.specs.Words.{paired, waiting_at, Front};
 ghost use Rattle.control.specs.Views.{is_set};
-ghost use Rattle.arriving.specs.Arrivals.{readyList, waitingList, WholeLists, Fits, Advanced, Freed};
+ghost use Rattle.arriving.specs.Arrivals.{ready_list, waiting_list, WholeLists, Fits, Advanced, Freed};
 
 use control::Arrival;
 use protocol::serial;
@@ -20,7 +20,7 @@ fn least(a: usize, b: usize) -> usize
 fn run(numbers: &[u32; 128], n: usize, next: u32) -> usize
     requires { (length numbers.now ≡ 128) × (n ≤ 128) }
     ensures { (result ≤ n) × ((words : List ℕ) → length words ≡ 128 →
-        result ≡ run_of next (take n (paired waitingAt words numbers.now))) }
+        result ≡ run_of next (take n (paired waiting_at words numbers.now))) }
 {
     let mut expected = next;
     let mut i: usize = 0;
@@ -58,8 +58,8 @@ pub fn advance(
 ) -> Arrival
     requires { WholeLists ready.old waiting.old numbers.old × Fits arrival }
     ensures { Advanced arrival arrival.expected
-        (held_of (readyList ready.old arrival.ready))
-        (waitingOf (waitingList waiting.old numbers.old arrival.waiting))
+        (held_of (ready_list ready.old arrival.ready))
+        (waiting_of (waiting_list waiting.old numbers.old arrival.waiting))
         result ready.new waiting.new numbers.new }
 {
     let n = arrival.ready;

@@ -7,10 +7,10 @@ use Rattle.promises.specs.Outcomes.{shows}
 use Rattle.read_core.specs.declared.Place.{Place}
 use Rattle.promises.specs.Promises.{place_of}
 use Rattle.read_core.specs.Places.{PlaceIs}
-use Rattle.results.specs.PlaceCodes.{placeStart}
+use Rattle.results.specs.PlaceCodes.{place_start}
 
 -- showing changes nothing; it tells where in the receive pool the front segment's payload lies, 0 and 0 where it is refused, and stores the
 -- start
 pub record PlacePromise (l : Link) (p : Parts) (a : Place) (stored : ℕ) : Type 0 where
-  pub place : PlaceIs (place_of (shows l p)) (length p.receivePool) a
-  pub start : stored ≡ placeStart a
+  pub place : PlaceIs (place_of (shows l p)) (length p.receive_pool) a
+  pub start : stored ≡ place_start a

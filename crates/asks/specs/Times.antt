@@ -5,9 +5,9 @@ use Rattle.control.specs.declared.Link.{Link}
 use Rattle.answers.specs.declared.Time.{Time}
 use Rattle.promises.specs.Parts.{Parts}
 use Rattle.promises.specs.Promises.{CheckPromise}
-use Rattle.codes.specs.Codes.{timeStored}
+use Rattle.codes.specs.Codes.{time_stored}
 
 -- a check changes nothing but the number that it is lent, which becomes the time that it names; refused, that stays as it was
 pub record TimePromise (t : ℕ) (l : Link) (p : Parts) (a : Time) (was stored : ℕ) : Type 0 where
   pub time : CheckPromise t l p a
-  pub when : stored ≡ timeStored a was
+  pub when : stored ≡ time_stored a was

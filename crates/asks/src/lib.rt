@@ -2,9 +2,9 @@
 // is wanted. Proved by walks.
 ghost use Rattle.promises.specs.Parts.{parts_of};
 ghost use Rattle.promises.specs.Promises.{SizePromise};
-ghost use Rattle.codes.specs.Codes.{countCode, timeCode};
+ghost use Rattle.codes.specs.Codes.{count_code, time_code};
 ghost use Rattle.codes.specs.Gives.{Gives};
-ghost use Rattle.results.specs.PlaceCodes.{placeCode};
+ghost use Rattle.results.specs.PlaceCodes.{place_code};
 ghost use Rattle.asks.specs.Places.{PlacePromise};
 ghost use Rattle.asks.specs.Times.{TimePromise};
 
@@ -19,7 +19,7 @@ pub fn size(
     table: &[Record],
     acks: &[u32],
 ) -> i32
-    ensures { Gives countCode (λ a. SizePromise link.now
+    ensures { Gives count_code (λ a. SizePromise link.now
         (parts_of send_pool.now receive_pool.now table.now acks.now) a) result }
 {
     let mut send_marks = marks::none_to_send();
@@ -62,7 +62,7 @@ pub fn show(
     acks: &[u32],
     start: &mut u32,
 ) -> i32
-    ensures { Gives placeCode (λ a. PlacePromise link.now
+    ensures { Gives place_code (λ a. PlacePromise link.now
         (parts_of send_pool.now receive_pool.now table.now acks.now) a start.new) result }
 {
     let mut send_marks = marks::none_to_send();
@@ -105,7 +105,7 @@ pub fn check(
     t: u32,
     when: &mut u32,
 ) -> i32
-    ensures { Gives timeCode (λ a. TimePromise t link.now
+    ensures { Gives time_code (λ a. TimePromise t link.now
         (parts_of send_pool.now receive_pool.now table.now acks.now) a
         when.old when.new) result }
 {

@@ -6,8 +6,8 @@ use Rattle.lists.specs.declared.Held.{Held}
 use Rattle.lists.specs.declared.Outstanding.{Outstanding}
 use Rattle.lists.specs.declared.Waiting.{Waiting}
 use Rattle.protocol.specs.declared.Settings.{Settings}
-use Rattle.words.specs.Words.{unpack, paired, outstandingAt, waitingAt}
-use Rattle.control.specs.Views.{Arrays, arraysOf}
+use Rattle.words.specs.Words.{unpack, paired, outstanding_at, waiting_at}
+use Rattle.control.specs.Views.{Arrays, arrays_of}
 use Rattle.control.specs.declared.Link.{Link}
 use Rattle.bench.specs.declared.Lent.{Lent}
 use Rattle.bench.specs.declared.Bench.{Bench}
@@ -15,14 +15,14 @@ use Rattle.bench.specs.declared.Bench.{Bench}
 -- ---- the bench
 
 -- 0 send pool 1 receive pool 2 records 3 ack list 4 output 5 lengths
-abbrev pub countsOf : Lent → List ℕ
-countsOf l = l.send ∷ l.receive ∷ l.records ∷ l.acks ∷ l.output ∷ l.lengths ∷ []
+abbrev pub counts_of : Lent → List ℕ
+counts_of l = l.send ∷ l.receive ∷ l.records ∷ l.acks ∷ l.output ∷ l.lengths ∷ []
 
 -- not opened, every part lent whole, every record zero
 pub record IsNew (b : Bench) : Type 0 where
   pub unopened : b.opened ≡ false
   pub stale : b.fresh ≡ false
-  pub whole : countsOf b.lent ≡ replicate 6 4294967295
+  pub whole : counts_of b.lent ≡ replicate 6 4294967295
   pub zero : b.table ≡ replicate 128 (record { number = 0; due = 0; timeout = 0; skips = 0 })
 
 -- ---- fields of the control block
@@ -41,14 +41,14 @@ abbrev pub flag : ℕ → ℕ
 flag v = cond (eqb v 0) 0 1
 
 -- 0 conv 1 mtu 2 mode 3 interval 4 threshold
-abbrev pub settingsOf : Settings → List ℕ
-settingsOf s = s.conv ∷ s.mtu ∷ s.mode ∷ s.interval ∷ s.threshold ∷ []
+abbrev pub settings_of : Settings → List ℕ
+settings_of s = s.conv ∷ s.mtu ∷ s.mode ∷ s.interval ∷ s.threshold ∷ []
 
 -- 0 to 4 the settings 5 snd_una 6 snd_nxt 7 rcv_nxt 8 current 9 peer_window 10 srtt 11 rttvar 12 rto 13 probe_wait 14 probe_due
 -- 15 ask 16 tell 17 dead 18 acks 19 stream 20 congestion 21 next_flush 22 updated 23 cwnd 24 ssthresh 25 incr
 abbrev pub fields_of : Link → List ℕ
 fields_of l =
-    settingsOf l.settings
+    settings_of l.settings
     ++ l.flight.una ∷ l.flight.next ∷ l.arrival.expected ∷ l.clock.current ∷ l.flight.window
     ∷ l.flight.rtt.smoothed ∷ l.flight.rtt.variation ∷ l.flight.rtt.timeout
     ∷ l.clock.probe.wait ∷ l.clock.probe.due ∷ l.clock.ask ∷ l.arrival.tell ∷ l.clock.dead ∷ l.arrival.acks
@@ -78,49 +78,49 @@ holds l = l.flight.queued ∷ l.flight.outstanding ∷ l.arrival.ready ∷ l.arr
 pub record Poked (l : Link) (field value : ℕ) (r : Link) : Type 0 where
   pub fields : fields_of r ≡ set (fields_of l) field (stored field value)
   pub counts : holds r ≡ holds l
-  pub lists : arraysOf r ≡ arraysOf l
+  pub lists : arrays_of r ≡ arrays_of l
 
 -- snd_una and snd_nxt are snd, rcv_nxt is rcv
 pub record Jumped (l : Link) (snd rcv : ℕ) (r : Link) : Type 0 where
   pub fields : fields_of r ≡ sets (fields_of l) 5 (snd ∷ snd ∷ rcv ∷ [])
   pub counts : holds r ≡ holds l
-  pub lists : arraysOf r ≡ arraysOf l
+  pub lists : arrays_of r ≡ arrays_of l
 
 -- ---- fields of the segments that it holds
 
 -- 0 slot 1 len 2 frg
-abbrev pub heldFields : Held → List ℕ
-heldFields h = h.slot ∷ h.len ∷ h.fragment ∷ []
+abbrev pub held_fields : Held → List ℕ
+held_fields h = h.slot ∷ h.len ∷ h.fragment ∷ []
 
 -- and 3 transmissions
-abbrev pub outstandingFields : Outstanding → List ℕ
-outstandingFields o = heldFields o.held ++ (o.transmissions ∷ [])
+abbrev pub outstanding_fields : Outstanding → List ℕ
+outstanding_fields o = held_fields o.held ++ (o.transmissions ∷ [])
 
 -- and 3 number
-abbrev pub waitingFields : Waiting → List ℕ
-waitingFields w = heldFields w.held ++ (w.number ∷ [])
+abbrev pub waiting_fields : Waiting → List ℕ
+waiting_fields w = held_fields w.held ++ (w.number ∷ [])
 
 -- the segments of each list: 0 queued 1 outstanding 2 ready 3 waiting
-abbrev pub segmentsOf : Link → List (List (List ℕ))
-segmentsOf l =
-    map (λ w. heldFields (unpack w)) l.queued
-    ∷ map outstandingFields (paired outstandingAt l.outstanding l.transmissions)
-    ∷ map (λ w. heldFields (unpack w)) l.ready
-    ∷ map waitingFields (paired waitingAt l.waiting l.waiting_numbers) ∷ []
+abbrev pub segments_of : Link → List (List (List ℕ))
+segments_of l =
+    map (λ w. held_fields (unpack w)) l.queued
+    ∷ map outstanding_fields (paired outstanding_at l.outstanding l.transmissions)
+    ∷ map (λ w. held_fields (unpack w)) l.ready
+    ∷ map waiting_fields (paired waiting_at l.waiting l.waiting_numbers) ∷ []
 
 -- what each field stores, list by list
-abbrev pub threeWidths : List (ℕ → ℕ)
-threeWidths = low8 ∷ low16 ∷ low8 ∷ []
+abbrev pub three_widths : List (ℕ → ℕ)
+three_widths = low8 ∷ low16 ∷ low8 ∷ []
 
-abbrev pub heldWidths : List (List (ℕ → ℕ))
-heldWidths = threeWidths ∷ (threeWidths ++ (low8 ∷ [])) ∷ threeWidths ∷ (threeWidths ++ (whole ∷ [])) ∷ []
+abbrev pub held_widths : List (List (ℕ → ℕ))
+held_widths = three_widths ∷ (three_widths ++ (low8 ∷ [])) ∷ three_widths ∷ (three_widths ++ (whole ∷ [])) ∷ []
 
-abbrev pub storedIn : ℕ → ℕ → ℕ → ℕ
-storedIn list field value = get_or (get_or heldWidths list []) field whole value
+abbrev pub stored_in : ℕ → ℕ → ℕ → ℕ
+stored_in list field value = get_or (get_or held_widths list []) field whole value
 
 -- segments of the list have the field
 abbrev pub HasField : ℕ → ℕ → Type 0
-HasField list field = field < length (get_or heldWidths list [])
+HasField list field = field < length (get_or held_widths list [])
 
 -- a field of the segment at an index has another value
 abbrev pub changed : List (List ℕ) → ℕ → ℕ → ℕ → List (List ℕ)
@@ -131,10 +131,10 @@ pub record Reworded (list : List ℕ) (index field value : ℕ) (r : List ℕ) :
   pub word : ℕ
   pub is : r ≡ set list index word
   pub fields : index < length list → field < 3
-      → heldFields (unpack word) ≡ set (heldFields (unpack (get_or list index 0))) field (storedIn 0 field value)
+      → held_fields (unpack word) ≡ set (held_fields (unpack (get_or list index 0))) field (stored_in 0 field value)
 
 -- a field of the segment at an index of a list has another value
 pub record HeldChanged (l : Link) (list index field value : ℕ) (r : Link) : Type 0 where
-  pub segments : segmentsOf r ≡ set (segmentsOf l) list (changed (get_or (segmentsOf l) list []) index field (storedIn list field value))
+  pub segments : segments_of r ≡ set (segments_of l) list (changed (get_or (segments_of l) list []) index field (stored_in list field value))
   pub counts : holds r ≡ holds l
   pub fields : fields_of r ≡ fields_of l

@@ -2,7 +2,7 @@
 pub mod poke;
 
 ghost use Rattle.std.specs.Prelude.{◌≡◌, true, false, ◌≤◌, set};
-ghost use Rattle.bench.specs.Fields.{countsOf, IsNew, Jumped};
+ghost use Rattle.bench.specs.Fields.{counts_of, IsNew, Jumped};
 
 use congestion::Congestion;
 use control::{Arrival, Clock, Flight, Link};
@@ -156,7 +156,7 @@ impl Bench {
 
 // The counts with another one for a part: 0 send pool, 1 receive pool, 2 records, 3 ack list, 4 output, 5 lengths.
 pub fn lend(lent: Lent, part: u32, count: u32) -> Lent
-    ensures { part ≤ 5 → countsOf result ≡ set (countsOf lent) part count }
+    ensures { part ≤ 5 → counts_of result ≡ set (counts_of lent) part count }
 {
     let n = count as usize;
     let mut next = lent;

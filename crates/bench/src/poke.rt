@@ -1,8 +1,8 @@
 // The control block with one number changed, to try refusal 13.
 ghost use Rattle.std.specs.Prelude.{◌≡◌, ◌%◌, ◌≤◌, ◌<◌, ltb, get_or, set};
 ghost use Rattle.words.specs.Words.{unpack};
-ghost use Rattle.bench.specs.Fields.{flag, settingsOf, stored, IsField, Poked, heldFields};
-ghost use Rattle.bench.specs.Fields.{storedIn, HasField, holds, Reworded, HeldChanged};
+ghost use Rattle.bench.specs.Fields.{flag, settings_of, stored, IsField, Poked, held_fields};
+ghost use Rattle.bench.specs.Fields.{stored_in, HasField, holds, Reworded, HeldChanged};
 
 use control::Link;
 use lists::Held;
@@ -30,7 +30,7 @@ fn flag(value: u32) -> u8
 // Fields 0 to 4: conv, mtu, mode, interval, threshold. Stream and congestion, fields 19 and 20, stay.
 fn setting(settings: Settings, field: u32, value: u32) -> Settings
     requires { field < 5 }
-    ensures { (settingsOf result ≡ set (settingsOf settings) field (stored field value)) × (result.stream ≡ settings.stream)
+    ensures { (settings_of result ≡ set (settings_of settings) field (stored field value)) × (result.stream ≡ settings.stream)
         × (result.congestion ≡ settings.congestion) }
 {
     let mut next = settings;
@@ -125,7 +125,7 @@ pub fn poke(link: Link, field: u32, value: u32) -> Link
 // A held segment with another slot, length or fragment.
 fn held(held: Held, field: u32, value: u32) -> Held
     requires { held.slot < 256 }
-    ensures { (result.slot < 256) × (field < 3 → heldFields result ≡ set (heldFields held) field (storedIn 0 field value)) }
+    ensures { (result.slot < 256) × (field < 3 → held_fields result ≡ set (held_fields held) field (stored_in 0 field value)) }
 {
     let mut next = held;
     match field {
@@ -138,7 +138,7 @@ fn held(held: Held, field: u32, value: u32) -> Held
 
 // The same of its word.
 fn word(word: u32, field: u32, value: u32) -> u32
-    ensures { field < 3 → heldFields (unpack result) ≡ set (heldFields (unpack word)) field (storedIn 0 field value) }
+    ensures { field < 3 → held_fields (unpack result) ≡ set (held_fields (unpack word)) field (stored_in 0 field value) }
 {
     words::pack(held(words::unpacked(word), field, value))
 }

@@ -7,11 +7,11 @@ use Rattle.answers.specs.declared.Answer.{Answer}
 use Rattle.answers.specs.declared.Answer.TheVariants.{Accepted, Refused}
 use Rattle.promises.specs.Promises.{OpenPromise}
 use Rattle.bench.specs.declared.Bench.{Bench}
-use Rattle.bench_calls.specs.BenchPromises.{lentParts, afterOpen, BenchOpens}
+use Rattle.bench_calls.specs.BenchPromises.{lent_parts, after_open, BenchOpens}
 
 -- the link after an opening is the one that it left, accepted or not
 pub opens : (c : Settings) (b : Bench) (s r a : List ℕ) (x : Answer) (l : Link)
-    → OpenPromise c b.link (lentParts b s r b.table a) x l (lentParts b s r b.table a)
-    → BenchOpens c b s r a (record { answer = x; bench = afterOpen b x l })
+    → OpenPromise c b.link (lent_parts b s r b.table a) x l (lent_parts b s r b.table a)
+    → BenchOpens c b s r a (record { answer = x; bench = after_open b x l })
 opens c b s r a Accepted l p = record { promise = p; bench = refl }
 opens c b s r a (Refused e) l p = record { promise = p; bench = refl }

@@ -11,15 +11,15 @@ pub record Front (count n : ℕ) (part : List ℕ) : Type 0 where
   pub inside : n ≤ length part
   pub long : n ≡ length (take n part)
 
-pub front-part : (count : ℕ) (part : List ℕ) → count < length part → Front count count part
-front-part count part h = record { least = omega arith; inside = omega arith; long = sym (length-take-le count part (omega arith)) }
+pub front_part_lem : (count : ℕ) (part : List ℕ) → count < length part → Front count count part
+front_part_lem count part h = record { least = omega arith; inside = omega arith; long = sym (length-take-le count part (omega arith)) }
 
-pub front-all : (count : ℕ) (part : List ℕ) → length part ≤ count → Front count (length part) part
-front-all count part h = record { least = omega arith; inside = omega arith; long = sym (length-take-le (length part) part (omega arith)) }
+pub front_all : (count : ℕ) (part : List ℕ) → length part ≤ count → Front count (length part) part
+front_all count part h = record { least = omega arith; inside = omega arith; long = sym (length-take-le (length part) part (omega arith)) }
 
 -- what is lent is as many elements as the count says, as far as there are any
-pub front-take : (count n : ℕ) (part : List ℕ) → Front count n part → take n part ≡ take count part
-front-take count n part f = go (dec_le count (length part))
+pub front_take : (count n : ℕ) (part : List ℕ) → Front count n part → take n part ≡ take count part
+front_take count n part f = go (dec_le count (length part))
   where
     go : Dec (count ≤ length part) → take n part ≡ take count part
     go (yes h) = let same : n ≡ count = omega arith in rw same
@@ -27,8 +27,8 @@ front-take count n part f = go (dec_le count (length part))
 
 -- another front of the same length
 module _ (count n : ℕ) (part front : List ℕ) (f : Front count n part) (same : length front ≡ n) where
-  pub front-new : take count (front ++ drop n part) ≡ front
-  front-new = go (dec_le count (length part))
+  pub front_new : take count (front ++ drop n part) ≡ front
+  front_new = go (dec_le count (length part))
     where
       go : Dec (count ≤ length part) → take count (front ++ drop n part) ≡ front
       go (yes h) = let here : count ≡ length front = omega arith in rw here (take-append_seam front (drop n part))
@@ -36,8 +36,8 @@ module _ (count n : ℕ) (part front : List ℕ) (f : Front count n part) (same 
           omega (arith, length-append front (drop n part), length-drop n part) in
           take_all count (front ++ drop n part) whole ∙ rw (drop_of_length-le part {i = n} (omega arith), append-nil)
 
-  pub front-behind : drop count (front ++ drop n part) ≡ drop count part
-  front-behind = go (dec_le count (length part))
+  pub front_behind : drop count (front ++ drop n part) ≡ drop count part
+  front_behind = go (dec_le count (length part))
     where
       go : Dec (count ≤ length part) → drop count (front ++ drop n part) ≡ drop count part
       go (yes h) =

@@ -1,7 +1,7 @@
 // The link's calls over the state of the bench: each is lent as much of every part as the bench says.
 ghost use Rattle.std.specs.Prelude.{◌≡◌};
 ghost use Rattle.bench_calls.specs.Fronts.{Front};
-ghost use Rattle.bench_calls.specs.BenchPromises.{after, afterOpen, BenchOpens, BenchSends, BenchTakesIn};
+ghost use Rattle.bench_calls.specs.BenchPromises.{after, after_open, BenchOpens, BenchSends, BenchTakesIn};
 ghost use Rattle.bench_calls.specs.BenchPromises.{BenchFlushes, BenchReads, BenchTells, BenchShows};
 ghost use Rattle.bench_calls.specs.BenchPromises.{BenchUpdates, BenchChecks};
 
@@ -63,7 +63,7 @@ fn front_lengths(count: usize, part: &[u16]) -> usize
 
 // The bench after an opening.
 fn after_open(bench: Bench, done: value_calls::Answered) -> Answered
-    ensures { result ≡ record { answer = done.answer; bench = afterOpen bench done.answer done.link } }
+    ensures { result ≡ record { answer = done.answer; bench = after_open bench done.answer done.link } }
 {
     let answer = done.answer;
     match answer {

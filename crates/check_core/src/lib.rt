@@ -2,10 +2,10 @@
 ghost use Rattle.std.specs.Prelude.{◌≡◌, length};
 ghost use Rattle.control.specs.Views.{arrays, link_of, Whole};
 ghost use Rattle.checking.specs.Verdicts.{Sounds};
-ghost use Rattle.record_words.specs.RecordWords.{recordsIn};
-ghost use Rattle.promises.specs.Parts.{lentLengths};
-ghost use Rattle.promises.specs.Outcomes.{checksWith};
-ghost use Rattle.promises.specs.Answers.{timeOutcome};
+ghost use Rattle.record_words.specs.RecordWords.{records_in};
+ghost use Rattle.promises.specs.Parts.{lent_lengths};
+ghost use Rattle.promises.specs.Outcomes.{checks_with};
+ghost use Rattle.promises.specs.Answers.{time_outcome};
 
 use answers::Time;
 use checking::{Verdict, flights};
@@ -38,11 +38,11 @@ pub fn check(
         × (length records.now ≡ 128)
         × Sounds (link_of settings flight arrival clock (arrays queued.now outstanding.now
         transmissions.now ready.now waiting.now waiting_numbers.now)) sound }
-    ensures { timeOutcome result ≡ checksWith
+    ensures { time_outcome result ≡ checks_with
         (link_of settings flight arrival clock (arrays queued.now outstanding.now transmissions.now
         ready.now waiting.now waiting_numbers.now))
-        (recordsIn records.now) acks.now
-        (lentLengths table send_pool.now receive_pool.now acks.now) t }
+        (records_in records.now) acks.now
+        (lent_lengths table send_pool.now receive_pool.now acks.now) t }
 {
     let lent = Lengths {
         send: send_pool.len(),

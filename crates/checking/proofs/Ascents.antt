@@ -10,12 +10,12 @@ use borrow.Author.Tests.{lt-ltb, ltb-true, le-leb, leb-true, ne_eqb}
 use lib.Dec.{leb, ltb, eqb}
 use lib.ListN.{length, take, get_or, length-take}
 use Rattle.protocol.specs.Serial.{minus}
-use Rattle.lists.specs.Orders.{ascending, waitingOffset}
-use Rattle.lists.specs.Receiving.{startsAt}
+use Rattle.lists.specs.Orders.{ascending, waiting_offset}
+use Rattle.lists.specs.Receiving.{starts_at}
 use Rattle.session.specs.Decides.{and_parts}
-use Rattle.session.specs.Ascending.{Ascends, ascends-decides}
-use Rattle.words.specs.Words.{paired, waitingAt}
-use Rattle.checking.specs.Tests.{ahead, follows, neighbours, aheadFits}
+use Rattle.session.specs.Ascending.{Ascends, ascends_decides}
+use Rattle.words.specs.Words.{paired, waiting_at}
+use Rattle.checking.specs.Tests.{ahead, follows, neighbours, ahead_fits}
 
 -- two tests that pass together are one
 pub same : (a b : Bool) → (a ≡ true → b ≡ true) → (b ≡ true → a ≡ true) → a ≡ b
@@ -83,20 +83,20 @@ module _ (base : ℕ) (fits : base < 2 ^ 32) where
         ih.1,
       )
 
-  ends-ascending : (x : ℕ) (l : List ℕ) → length l ≤ 127
+  ends_ascending : (x : ℕ) (l : List ℕ) → length l ≤ 127
       → (ltb (off x) 128 && ltb (off (last x l)) 128 && neighbours (x ∷ l)) ≡ ascending off 0 128 (x ∷ l)
-  ends-ascending x l h = same _ _ there back
+  ends_ascending x l h = same _ _ there back
     where
       there : (ltb (off x) 128 && ltb (off (last x l)) 128 && neighbours (x ∷ l)) ≡ true → ascending off 0 128 (x ∷ l) ≡ true
       there e =
           let p = and_parts (ltb (off x) 128 && ltb (off (last x l)) 128) (neighbours (x ∷ l)) e in
           let q = and_parts (ltb (off x) 128) (ltb (off (last x l)) 128) p.0 in
-          (ascends-decides off 0 128 (x ∷ l)).passes
+          (ascends_decides off 0 128 (x ∷ l)).passes
           (ascends 0 128 x l p.1 (omega (arith, ltb-true (off x) 128 q.0)) (omega arith) (ltb-true _ _ q.1))
 
       back : ascending off 0 128 (x ∷ l) ≡ true → (ltb (off x) 128 && ltb (off (last x l)) 128 && neighbours (x ∷ l)) ≡ true
       back e =
-          let a = (ascends-decides off 0 128 (x ∷ l)).holds e in
+          let a = (ascends_decides off 0 128 (x ∷ l)).holds e in
           let s = stepwise 0 128 x l (omega arith) a in
           both _ _ (both _ _ (lt-ltb _ _ a.1) (lt-ltb _ _ s.1)) s.0
 
@@ -105,22 +105,22 @@ module _ (base : ℕ) (fits : base < 2 ^ 32) where
   begins [] = false
   begins (x ∷ l) = eqb (off x) 0
 
-  last-at : (x : ℕ) (l : List ℕ) (k : ℕ) → k ≤ length l → get_or (x ∷ l) k 0 ≡ last x (take k l)
-  last-at x l zero h = refl
-  last-at x [] (suc k) h = absurd (omega arith)
-  last-at x (y ∷ l) (suc k) h = last-at y l k (omega arith)
+  last_at : (x : ℕ) (l : List ℕ) (k : ℕ) → k ≤ length l → get_or (x ∷ l) k 0 ≡ last x (take k l)
+  last_at x l zero h = refl
+  last_at x [] (suc k) h = absurd (omega arith)
+  last_at x (y ∷ l) (suc k) h = last_at y l k (omega arith)
 
-  pub ahead-ascending : (ready : ℕ) (numbers : List ℕ) (n : ℕ) → n ≤ 128 → n ≤ length numbers
-      → aheadFits base ready numbers n ≡ (ascending off 0 128 (take n numbers) && not (begins (take n numbers) && ltb ready 128))
+  pub ahead_ascending : (ready : ℕ) (numbers : List ℕ) (n : ℕ) → n ≤ 128 → n ≤ length numbers
+      → ahead_fits base ready numbers n ≡ (ascending off 0 128 (take n numbers) && not (begins (take n numbers) && ltb ready 128))
   unfolding ascending
-  ahead-ascending ready numbers zero h g = refl
-  ahead-ascending ready [] (suc k) h g = absurd (omega arith)
-  ahead-ascending ready (x ∷ l) (suc k) h g =
+  ahead_ascending ready numbers zero h g = refl
+  ahead_ascending ready [] (suc k) h g = absurd (omega arith)
+  ahead_ascending ready (x ∷ l) (suc k) h g =
       let q : suc k - 1 ≡ k = omega arith in
       let z : eqb (suc k) 0 ≡ false = ne_eqb (suc k) 0 (λ e. omega arith) in
-      rw (z, q, last-at x l k (omega arith)) (swap (ltb (off x) 128 && ltb (off (last x (take k l))) 128)
+      rw (z, q, last_at x l k (omega arith)) (swap (ltb (off x) 128 && ltb (off (last x (take k l))) 128)
       (not (eqb (off x) 0 && ltb ready 128)) (neighbours (x ∷ take k l)) ∙ ap (λ (b : Bool). b && not (eqb (off x) 0 && ltb ready 128))
-      (ends-ascending x (take k l) (omega (arith, length-take k l))))
+      (ends_ascending x (take k l) (omega (arith, length-take k l))))
     where
       swap : (a b c : Bool) → (a && b && c) ≡ (a && c && b)
       swap true true true = refl
@@ -131,20 +131,20 @@ module _ (base : ℕ) (fits : base < 2 ^ 32) where
 
 -- ---- of segments that wait, words and numbers side by side
 
-pub paired-ascending : (base least limit : ℕ) (ws ns : List ℕ) → length ws ≡ length ns
-    → ascending (waitingOffset base) least limit (paired waitingAt ws ns) ≡ ascending (λ (x : ℕ). minus x base) least limit ns
+pub paired_ascending : (base least limit : ℕ) (ws ns : List ℕ) → length ws ≡ length ns
+    → ascending (waiting_offset base) least limit (paired waiting_at ws ns) ≡ ascending (λ (x : ℕ). minus x base) least limit ns
 unfolding ascending paired
-paired-ascending base least limit [] [] e = refl
-paired-ascending base least limit [] (n ∷ ns) e = absurd (omega arith)
-paired-ascending base least limit (w ∷ ws) [] e = absurd (omega arith)
-paired-ascending base least limit (w ∷ ws) (n ∷ ns) e =
+paired_ascending base least limit [] [] e = refl
+paired_ascending base least limit [] (n ∷ ns) e = absurd (omega arith)
+paired_ascending base least limit (w ∷ ws) [] e = absurd (omega arith)
+paired_ascending base least limit (w ∷ ws) (n ∷ ns) e =
     ap (λ (b : Bool). leb least (minus n base) && ltb (minus n base) limit && b)
-    (paired-ascending base (minus n base + 1) limit ws ns (omega arith))
+    (paired_ascending base (minus n base + 1) limit ws ns (omega arith))
 
-pub paired-starts : (base : ℕ) (fits : base < 2 ^ 32) (ws ns : List ℕ) → length ws ≡ length ns
-    → startsAt base (paired waitingAt ws ns) ≡ begins base fits ns
-unfolding startsAt paired
-paired-starts base fits [] [] e = refl
-paired-starts base fits [] (n ∷ ns) e = absurd (omega arith)
-paired-starts base fits (w ∷ ws) [] e = absurd (omega arith)
-paired-starts base fits (w ∷ ws) (n ∷ ns) e = refl
+pub paired_starts : (base : ℕ) (fits : base < 2 ^ 32) (ws ns : List ℕ) → length ws ≡ length ns
+    → starts_at base (paired waiting_at ws ns) ≡ begins base fits ns
+unfolding starts_at paired
+paired_starts base fits [] [] e = refl
+paired_starts base fits [] (n ∷ ns) e = absurd (omega arith)
+paired_starts base fits (w ∷ ws) [] e = absurd (omega arith)
+paired_starts base fits (w ∷ ws) (n ∷ ns) e = refl

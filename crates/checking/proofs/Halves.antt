@@ -9,129 +9,129 @@ use borrow.Author.Tests.{le-leb}
 use lib.Dec.{leb, ltb, eqb}
 use lib.ListN.{length, take, length-map}
 use lib.Seq.{length-take-le}
-use Rattle.protocol.specs.Protocol.{sendSlots, receiveSlots, sendWindow}
+use Rattle.protocol.specs.Protocol.{send_slots, receive_slots, send_window}
 use Rattle.protocol.specs.Ranges.{mss}
 use Rattle.protocol.specs.Serial.{minus}
 use Rattle.protocol.specs.declared.Settings.{Settings}
 use Rattle.timing.specs.declared.Record.{Record}
 use Rattle.lists.specs.declared.Held.{Held}
 use Rattle.lists.specs.declared.Outstanding.{Outstanding}
-use Rattle.lists.specs.Views.{outstandingPart, waitingPart}
+use Rattle.lists.specs.Views.{outstanding_part, waiting_part}
 use Rattle.lists.specs.Joining.{joined}
-use Rattle.lists.specs.JoiningLaws.{joined-held}
-use Rattle.lists.specs.Orders.{ascending, sentOffset}
+use Rattle.lists.specs.JoiningLaws.{joined_held}
+use Rattle.lists.specs.Orders.{ascending, sent_offset}
 use Rattle.slots.specs.Slots.{slots_of, all_below, once}
-use Rattle.slots.specs.SlotLaws.{slots-append}
-use Rattle.slots.specs.Agree.{distinct-agrees}
+use Rattle.slots.specs.SlotLaws.{slots_append}
+use Rattle.slots.specs.Agree.{distinct_agrees}
 use Rattle.session.specs.Decides.{and_parts}
-use Rattle.session.specs.State.{Ack, Sending, Receiving, sendHeld, receiveHeld, slots}
+use Rattle.session.specs.State.{Ack, Sending, Receiving, send_held, receive_held, slots}
 use Rattle.session.specs.Valid.{
   all,
-  heldFits,
-  sentFits,
-  slotsFit,
-  roundTripFits,
-  numbersFit,
-  waitingFits,
+  held_fits,
+  sent_fits,
+  slots_fit,
+  round_trip_fits,
+  numbers_fit,
+  waiting_fits,
   settled,
-  sendingValid,
-  receivingValid,
+  sending_valid,
+  receiving_valid,
 }
-use Rattle.words.specs.Words.{unpack, heldIn, waitingAt, outstandingAt, outstandingIn}
-use Rattle.words.proofs.Pairs.{paired-length}
+use Rattle.words.specs.Words.{unpack, held_in, waiting_at, outstanding_at, outstanding_in}
+use Rattle.words.proofs.Pairs.{paired_length}
 use Rattle.control.specs.declared.Flight.{Flight}
 use Rattle.control.specs.declared.Arrival.{Arrival}
-use Rattle.control.specs.Views.{sendingOf, receivingOf}
-use Rattle.checking.specs.Tests.{recordsFit, first_of, flightFits, sendSlotsIn, sendingFits, receiveSlotsIn, receivingFits}
-use Rattle.checking.proofs.Ascents.{same, both, off, begins, ahead-ascending, paired-ascending, paired-starts}
-use Rattle.checking.proofs.Joins.{few, words-all, send-words-all, paired_words, paired-few, both-low, records-joined, first-joined}
+use Rattle.control.specs.Views.{sending_of, receiving_of}
+use Rattle.checking.specs.Tests.{records_fit, first_of, flight_fits, send_slots_in, sending_fits, receive_slots_in, receiving_fits}
+use Rattle.checking.proofs.Ascents.{same, both, off, begins, ahead_ascending, paired_ascending, paired_starts}
+use Rattle.checking.proofs.Joins.{few, words_all, send_words_all, paired_words, paired_few, both_low, records_joined, first_joined}
 
 all_append : {A : Type 0} (test : A → Bool) (l r : List A) → all test (l ++ r) ≡ (all test l && all test r)
 all_append test [] r = refl
 all_append test (x ∷ l) r = rw (all_append test l r) (sym (and_assoc (test x) (all test l) (all test r)))
 
-below-append : (n : ℕ) (l r : List ℕ) → all_below n (l ++ r) ≡ (all_below n l && all_below n r)
+below_append : (n : ℕ) (l r : List ℕ) → all_below n (l ++ r) ≡ (all_below n l && all_below n r)
 unfolding all_below
-below-append n [] r = refl
-below-append n (x ∷ l) r = rw (below-append n l r) (sym (and_assoc (ltb x n) (all_below n l) (all_below n r)))
+below_append n [] r = refl
+below_append n (x ∷ l) r = rw (below_append n l r) (sym (and_assoc (ltb x n) (all_below n l) (all_below n r)))
 
 -- ---- sending
 
 module _ (f : Flight) (queued outstanding transmissions : List ℕ) (rs : List Record)
     (long : f.outstanding ≤ length outstanding) (side : f.outstanding ≤ length transmissions) (many : f.outstanding ≤ length rs) where
   abbrev os : List Outstanding
-  os = outstandingIn outstanding transmissions f.outstanding
+  os = outstanding_in outstanding transmissions f.outstanding
 
   abbrev sends : Sending
-  sends = sendingOf f queued outstanding transmissions rs
+  sends = sending_of f queued outstanding transmissions rs
 
   even : length (take f.outstanding outstanding) ≡ length (take f.outstanding transmissions)
   even = length-take-le f.outstanding outstanding long ∙ sym (length-take-le f.outstanding transmissions side)
 
   count : length os ≡ f.outstanding
   count =
-      paired-length outstandingAt (take f.outstanding outstanding) (take f.outstanding transmissions) f.outstanding
+      paired_length outstanding_at (take f.outstanding outstanding) (take f.outstanding transmissions) f.outstanding
       (length-take-le f.outstanding outstanding long)
       (length-take-le f.outstanding transmissions side)
 
   room : length os ≤ length rs
   room = omega (arith, count)
 
-  held-parts : sendHeld sends ≡ heldIn outstanding f.outstanding ++ heldIn queued f.queued
-  held-parts =
-      ap (λ (l : List Held). l ++ heldIn queued f.queued)
-      (joined-held os rs room ∙ paired_words outstandingAt outstandingPart unpack (λ w n. refl) (take f.outstanding outstanding)
+  held_parts : send_held sends ≡ held_in outstanding f.outstanding ++ held_in queued f.queued
+  held_parts =
+      ap (λ (l : List Held). l ++ held_in queued f.queued)
+      (joined_held os rs room ∙ paired_words outstanding_at outstanding_part unpack (λ w n. refl) (take f.outstanding outstanding)
       (take f.outstanding transmissions) even)
 
-  pub send-slots : slots (sendHeld sends) ≡ sendSlotsIn queued f.queued outstanding f.outstanding
-  send-slots = ap slots held-parts ∙ slots-append (heldIn outstanding f.outstanding) (heldIn queued f.queued)
+  pub send_slots_lem : slots (send_held sends) ≡ send_slots_in queued f.queued outstanding f.outstanding
+  send_slots_lem = ap slots held_parts ∙ slots_append (held_in outstanding f.outstanding) (held_in queued f.queued)
 
   module _ (c : Settings) where
     abbrev h₁ : Bool
-    h₁ = all (heldFits (mss c)) (heldIn outstanding f.outstanding)
+    h₁ = all (held_fits (mss c)) (held_in outstanding f.outstanding)
 
     abbrev h₂ : Bool
-    h₂ = all (heldFits (mss c)) (heldIn queued f.queued)
+    h₂ = all (held_fits (mss c)) (held_in queued f.queued)
 
     abbrev b₁ : Bool
-    b₁ = all_below sendSlots (slots_of (heldIn outstanding f.outstanding))
+    b₁ = all_below send_slots (slots_of (held_in outstanding f.outstanding))
 
     abbrev b₂ : Bool
-    b₂ = all_below sendSlots (slots_of (heldIn queued f.queued))
+    b₂ = all_below send_slots (slots_of (held_in queued f.queued))
 
     abbrev o : Bool
-    o = once (sendSlotsIn queued f.queued outstanding f.outstanding)
+    o = once (send_slots_in queued f.queued outstanding f.outstanding)
 
-    held_all : all (heldFits (mss c)) (sendHeld sends) ≡ (h₁ && h₂)
-    held_all = ap (all (heldFits (mss c))) held-parts ∙ all_append (heldFits (mss c)) (heldIn outstanding f.outstanding)
-        (heldIn queued f.queued)
+    held_all : all (held_fits (mss c)) (send_held sends) ≡ (h₁ && h₂)
+    held_all = ap (all (held_fits (mss c))) held_parts ∙ all_append (held_fits (mss c)) (held_in outstanding f.outstanding)
+        (held_in queued f.queued)
 
-    slots-all : slotsFit sendSlots (sendHeld sends) ≡ (b₁ && b₂ && o)
-    slots-all =
-        sym (distinct-agrees sendSlots (sendHeld sends))
-        ∙ ap (λ (l : List ℕ). all_below sendSlots l && once l) send-slots
-        ∙ ap (λ (b : Bool). b && o) (below-append sendSlots (slots_of (heldIn outstanding f.outstanding))
-        (slots_of (heldIn queued f.queued)))
+    slots_all : slots_fit send_slots (send_held sends) ≡ (b₁ && b₂ && o)
+    slots_all =
+        sym (distinct_agrees send_slots (send_held sends))
+        ∙ ap (λ (l : List ℕ). all_below send_slots l && once l) send_slots_lem
+        ∙ ap (λ (b : Bool). b && o) (below_append send_slots (slots_of (held_in outstanding f.outstanding))
+        (slots_of (held_in queued f.queued)))
 
-    pub sending-checked : (sendingFits (mss c) queued f.queued outstanding transmissions f.outstanding
-        && flightFits c.mode f.una f.next (take f.outstanding rs) && roundTripFits c.mode f.rtt)
-        ≡ sendingValid c sends
-    unfolding sendingValid numbersFit
-    sending-checked =
-        let joins = (rw count at (records-joined c.mode f.una (minus f.next f.una) 0 os rs room)) in
-        let first = (rw count at (first-joined os rs f.next room)) in
+    pub sending_checked : (sending_fits (mss c) queued f.queued outstanding transmissions f.outstanding
+        && flight_fits c.mode f.una f.next (take f.outstanding rs) && round_trip_fits c.mode f.rtt)
+        ≡ sending_valid c sends
+    unfolding sending_valid numbers_fit
+    sending_checked =
+        let joins = (rw count at (records_joined c.mode f.una (minus f.next f.una) 0 os rs room)) in
+        let first = (rw count at (first_joined os rs f.next room)) in
         rw (
           held_all,
-          slots-all,
+          slots_all,
           first,
-          send-words-all (mss c) (take f.queued queued),
-          send-words-all (mss c) (take f.outstanding outstanding),
-          ← paired-few (take f.outstanding outstanding) (take f.outstanding transmissions) even,
+          send_words_all (mss c) (take f.queued queued),
+          send_words_all (mss c) (take f.outstanding outstanding),
+          ← paired_few (take f.outstanding outstanding) (take f.outstanding transmissions) even,
         )
-        (turn h₁ h₂ b₁ b₂ o (all few os) (recordsFit c.mode f.una (minus f.next f.una) 0 (take f.outstanding rs))
-        (ascending (sentOffset f.una) 0 (minus f.next f.una) (joined os rs)) (all (sentFits c.mode) (joined os rs))
-        (leb (minus f.next f.una) sendWindow) (eqb (first_of (take f.outstanding rs) f.next) f.una)
-        (roundTripFits c.mode f.rtt) joins)
+        (turn h₁ h₂ b₁ b₂ o (all few os) (records_fit c.mode f.una (minus f.next f.una) 0 (take f.outstanding rs))
+        (ascending (sent_offset f.una) 0 (minus f.next f.una) (joined os rs)) (all (sent_fits c.mode) (joined os rs))
+        (leb (minus f.next f.una) send_window) (eqb (first_of (take f.outstanding rs) f.next) f.una)
+        (round_trip_fits c.mode f.rtt) joins)
       where
         turn : (h₁ h₂ b₁ b₂ o t r a s w g z : Bool) → (t && r) ≡ (a && s)
             → (h₂ && b₂ && (h₁ && b₁) && t && o && (w && g && r) && z) ≡ (h₁ && h₂ && (b₁ && b₂ && o) && (a && w && g) && s && z)
@@ -174,53 +174,53 @@ module _ (f : Flight) (queued outstanding transmissions : List ℕ) (rs : List R
 module _ (a : Arrival) (ready waiting numbers : List ℕ) (long : a.ready ≤ length ready) (wide : a.waiting ≤ length waiting)
     (side : a.waiting ≤ length numbers) (acks : List Ack) where
   abbrev takes : Receiving
-  takes = receivingOf a ready waiting numbers acks
+  takes = receiving_of a ready waiting numbers acks
 
   level : length (take a.waiting waiting) ≡ length (take a.waiting numbers)
   level = length-take-le a.waiting waiting wide ∙ sym (length-take-le a.waiting numbers side)
 
-  got-parts : receiveHeld takes ≡ heldIn ready a.ready ++ heldIn waiting a.waiting
-  got-parts = ap (λ (l : List Held). heldIn ready a.ready ++ l)
-      (paired_words waitingAt waitingPart unpack (λ w n. refl) (take a.waiting waiting) (take a.waiting numbers) level)
+  got_parts : receive_held takes ≡ held_in ready a.ready ++ held_in waiting a.waiting
+  got_parts = ap (λ (l : List Held). held_in ready a.ready ++ l)
+      (paired_words waiting_at waiting_part unpack (λ w n. refl) (take a.waiting waiting) (take a.waiting numbers) level)
 
-  pub receive-slots : slots (receiveHeld takes) ≡ receiveSlotsIn ready a.ready waiting a.waiting
-  receive-slots = ap slots got-parts ∙ slots-append (heldIn ready a.ready) (heldIn waiting a.waiting)
+  pub receive_slots_lem : slots (receive_held takes) ≡ receive_slots_in ready a.ready waiting a.waiting
+  receive_slots_lem = ap slots got_parts ∙ slots_append (held_in ready a.ready) (held_in waiting a.waiting)
 
   module _ (c : Settings) (few : a.ready ≤ 128) (most : a.waiting ≤ 128) (noted : length acks ≤ 256) (fits : a.expected < 2 ^ 32) where
     abbrev g₁ : Bool
-    g₁ = all (heldFits (mss c)) (heldIn ready a.ready)
+    g₁ = all (held_fits (mss c)) (held_in ready a.ready)
 
     abbrev g₂ : Bool
-    g₂ = all (heldFits (mss c)) (heldIn waiting a.waiting)
+    g₂ = all (held_fits (mss c)) (held_in waiting a.waiting)
 
     abbrev u : Bool
-    u = once (receiveSlotsIn ready a.ready waiting a.waiting)
+    u = once (receive_slots_in ready a.ready waiting a.waiting)
 
-    got-all : all (heldFits (mss c)) (receiveHeld takes) ≡ (g₁ && g₂)
-    got-all = ap (all (heldFits (mss c))) got-parts ∙ all_append (heldFits (mss c)) (heldIn ready a.ready) (heldIn waiting a.waiting)
+    got_all : all (held_fits (mss c)) (receive_held takes) ≡ (g₁ && g₂)
+    got_all = ap (all (held_fits (mss c))) got_parts ∙ all_append (held_fits (mss c)) (held_in ready a.ready) (held_in waiting a.waiting)
 
-    got-slots : slotsFit receiveSlots (receiveHeld takes) ≡ u
-    got-slots =
-        sym (distinct-agrees receiveSlots (receiveHeld takes))
-        ∙ ap (λ (l : List ℕ). all_below receiveSlots l && once l) receive-slots
-        ∙ ap (λ (b : Bool). b && u) (both-low (take a.ready ready) (take a.waiting waiting))
+    got_slots : slots_fit receive_slots (receive_held takes) ≡ u
+    got_slots =
+        sym (distinct_agrees receive_slots (receive_held takes))
+        ∙ ap (λ (l : List ℕ). all_below receive_slots l && once l) receive_slots_lem
+        ∙ ap (λ (b : Bool). b && u) (both_low (take a.ready ready) (take a.waiting waiting))
 
-    pub receiving-checked : receivingFits (mss c) a.expected ready a.ready waiting numbers a.waiting ≡ receivingValid c takes
-    unfolding receivingValid waitingFits settled
-    receiving-checked =
-        let count : length (heldIn ready a.ready) ≡ a.ready =
+    pub receiving_checked : receiving_fits (mss c) a.expected ready a.ready waiting numbers a.waiting ≡ receiving_valid c takes
+    unfolding receiving_valid waiting_fits settled
+    receiving_checked =
+        let count : length (held_in ready a.ready) ≡ a.ready =
         length-map (take a.ready ready) unpack ∙ length-take-le a.ready ready long in
         rw (
-          words-all (mss c) (take a.ready ready),
-          words-all (mss c) (take a.waiting waiting),
-          got-all,
-          got-slots,
+          words_all (mss c) (take a.ready ready),
+          words_all (mss c) (take a.waiting waiting),
+          got_all,
+          got_slots,
           count,
           le-leb a.ready 128 few,
           le-leb (length acks) 256 noted,
-          ahead-ascending a.expected fits a.ready numbers a.waiting most side,
-          paired-ascending a.expected 0 128 (take a.waiting waiting) (take a.waiting numbers) level,
-          paired-starts a.expected fits (take a.waiting waiting) (take a.waiting numbers) level,
+          ahead_ascending a.expected fits a.ready numbers a.waiting most side,
+          paired_ascending a.expected 0 128 (take a.waiting waiting) (take a.waiting numbers) level,
+          paired_starts a.expected fits (take a.waiting waiting) (take a.waiting numbers) level,
         )
         (turn u g₁ g₂ (ascending (off a.expected fits) 0 128 (take a.waiting numbers))
         (not (begins a.expected fits (take a.waiting numbers) && ltb a.ready 128)))

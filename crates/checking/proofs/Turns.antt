@@ -12,23 +12,23 @@ use lib.ListN.{length, take, drop, get_or, length-replicate}
 use lib.Seq.{take_all}
 use Rattle.protocol.specs.Serial.{minus}
 use Rattle.timing.specs.declared.Record.{Record}
-use Rattle.lists.proofs.Loops.{view-next, view-end}
+use Rattle.lists.proofs.Loops.{view_next, view_end}
 use Rattle.slots.specs.Slots.{once}
 use Rattle.session.specs.Valid.{all}
-use Rattle.marks.specs.Marks.{noneOf, none, noneToSend, markedAll}
+use Rattle.marks.specs.Marks.{none_of, none, none_to_send, marked_all}
 use Rattle.checking.specs.Tests.{
   follows,
   neighbours,
-  recordFits,
-  leastAfter,
-  leastAfterAll,
-  wordFits,
-  sendWordFits,
-  sentFew,
-  sendSlotsIn,
+  record_fits,
+  least_after,
+  least_after_all,
+  word_fits,
+  send_word_fits,
+  sent_few,
+  send_slots_in,
   SendingFits,
-  receiveSlotsIn,
-  aheadFits,
+  receive_slots_in,
+  ahead_fits,
   ReceivingFits,
 }
 
@@ -42,36 +42,36 @@ not-false false e = sym e
 
 -- a test of each word; fit so far
 module _ (test : ℕ → Bool) (ws : List ℕ) (n i : ℕ) (goal fit : Bool) (inv : goal ≡ (fit && all test (drop i (take n ws)))) where
-  pub all-next : (t : Bool) → i < n → n ≤ length ws → t ≡ test (get_or ws i 0) → goal ≡ (fit && t && all test (drop (i + 1) (take n ws)))
-  all-next t h g e = inv ∙ rw (view-next ws n i 0 h g, ← e) (sym (and_assoc fit t _))
+  pub all_next : (t : Bool) → i < n → n ≤ length ws → t ≡ test (get_or ws i 0) → goal ≡ (fit && t && all test (drop (i + 1) (take n ws)))
+  all_next t h g e = inv ∙ rw (view_next ws n i 0 h g, ← e) (sym (and_assoc fit t _))
 
   pub all_end : n ≤ i → goal ≡ fit
-  all_end h = inv ∙ rw (view-end ws n i h) (and-true fit)
+  all_end h = inv ∙ rw (view_end ws n i h) (and-true fit)
 
 -- neighbours, the one at i and the one before it
 module _ (ws : List ℕ) (n i : ℕ) (goal fit : Bool) (low : 1 ≤ i) (g : n ≤ length ws)
     (inv : goal ≡ (fit && neighbours (drop (i - 1) (take n ws)))) where
-  near-front : i - 1 < n → drop (i - 1) (take n ws) ≡ get_or ws (i - 1) 0 ∷ drop i (take n ws)
-  near-front h = let q : i - 1 + 1 ≡ i = omega arith in rw q at (view-next ws n (i - 1) 0 h g)
+  near_front : i - 1 < n → drop (i - 1) (take n ws) ≡ get_or ws (i - 1) 0 ∷ drop i (take n ws)
+  near_front h = let q : i - 1 + 1 ≡ i = omega arith in rw q at (view_next ws n (i - 1) 0 h g)
 
   pub near_next : (t : Bool) → i < n → t ≡ follows (get_or ws (i - 1) 0) (get_or ws i 0)
       → goal ≡ (fit && t && neighbours (drop (i + 1 - 1) (take n ws)))
   unfolding neighbours
   near_next t h e =
       let q : i + 1 - 1 ≡ i = omega arith in
-      inv ∙ ap (λ (l : List ℕ). fit && neighbours l) (near-front (omega arith)) ∙ ap (λ (b : Bool). fit && b) step ∙ rw q
+      inv ∙ ap (λ (l : List ℕ). fit && neighbours l) (near_front (omega arith)) ∙ ap (λ (b : Bool). fit && b) step ∙ rw q
       (sym (and_assoc fit t _))
     where
       step : neighbours (get_or ws (i - 1) 0 ∷ drop i (take n ws)) ≡ (t && neighbours (drop i (take n ws)))
-      step = rw (view-next ws n i 0 h g, ← e) refl
+      step = rw (view_next ws n i 0 h g, ← e) refl
 
-  pub near-end : n ≤ i → goal ≡ fit
+  pub near_end : n ≤ i → goal ≡ fit
   unfolding neighbours
-  near-end h = go (dec_lt (i - 1) n)
+  near_end h = go (dec_lt (i - 1) n)
     where
       go : Dec (i - 1 < n) → goal ≡ fit
-      go (yes s) = inv ∙ rw (near-front s, view-end ws n i h) (and-true fit)
-      go (no s) = let q : n ≤ i - 1 = omega arith in inv ∙ rw (view-end ws n (i - 1) q) (and-true fit)
+      go (yes s) = inv ∙ rw (near_front s, view_end ws n i h) (and-true fit)
+      go (no s) = let q : n ≤ i - 1 = omega arith in inv ∙ rw (view_end ws n (i - 1) q) (and-true fit)
 
 -- the test of two neighbours, d after the first, e one less
 pub follows_test : (a b d e : ℕ) → a < 2 ^ 32 → d ≡ minus b a → e ≡ minus d 1 → ltb e 127 ≡ follows a b
@@ -83,24 +83,24 @@ follows_test a b d e h ed ee = let q : a % 2 ^ 32 ≡ a = omega arith in rw (q, 
     go (no s) t = rw (le-ltb e 127 (omega arith), lt-leb 1 d (omega arith)) refl
 
 -- records; what is carried
-module _ (mode una next : ℕ) (rs : List Record) (n i goal least : ℕ) (inv : goal ≡ leastAfterAll mode una next least (drop i (take n rs)))
+module _ (mode una next : ℕ) (rs : List Record) (n i goal least : ℕ) (inv : goal ≡ least_after_all mode una next least (drop i (take n rs)))
   where
-    pub least-next : (d : Record) (k : ℕ) → i < n → n ≤ length rs → k ≡ leastAfter mode una next least (get_or rs i d)
-        → goal ≡ leastAfterAll mode una next k (drop (i + 1) (take n rs))
-    unfolding leastAfterAll
-    least-next d k h g e =
+    pub least_next : (d : Record) (k : ℕ) → i < n → n ≤ length rs → k ≡ least_after mode una next least (get_or rs i d)
+        → goal ≡ least_after_all mode una next k (drop (i + 1) (take n rs))
+    unfolding least_after_all
+    least_next d k h g e =
         inv
-        ∙ ap (leastAfterAll mode una next least) (view-next rs n i d h g)
-        ∙ ap (λ (m : ℕ). leastAfterAll mode una next m (drop (i + 1) (take n rs))) (sym e)
+        ∙ ap (least_after_all mode una next least) (view_next rs n i d h g)
+        ∙ ap (λ (m : ℕ). least_after_all mode una next m (drop (i + 1) (take n rs))) (sym e)
 
-    pub least-end : n ≤ i → goal ≡ least
-    unfolding leastAfterAll
-    least-end h = inv ∙ rw (view-end rs n i h)
+    pub least_end : n ≤ i → goal ≡ least
+    unfolding least_after_all
+    least_end h = inv ∙ rw (view_end rs n i h)
 
 -- four tests of which one fails
-fails-in : (g a b f : Bool) → (a && b) ≡ false → (g && a && b && f) ≡ false
-fails-in true a b f e = rw e
-fails-in false a b f e = refl
+fails_in : (g a b f : Bool) → (a && b) ≡ false → (g && a && b && f) ≡ false
+fails_in true a b f e = rw e
+fails_in false a b f e = refl
 
 -- one record, o being its offset; g: it may be the first
 module _ (mode una next least o limit : ℕ) (g : Bool) (r : Record) (eg : g ≡ (ltb 0 least || eqb r.number una))
@@ -108,26 +108,26 @@ module _ (mode una next least o limit : ℕ) (g : Bool) (r : Record) (eg : g ≡
   abbrev rises : Bool
   rises = leb least o && ltb o limit
 
-  least-unfit : (f : Bool) → f ≡ recordFits mode r → (g && leb least o && ltb o limit && f) ≡ false
-      → 2 ^ 32 ≡ leastAfter mode una next least r
-  least-unfit f ef t = rw (← eo, ← el, ← ef, ← eg, t) refl
+  least_unfit : (f : Bool) → f ≡ record_fits mode r → (g && leb least o && ltb o limit && f) ≡ false
+      → 2 ^ 32 ≡ least_after mode una next least r
+  least_unfit f ef t = rw (← eo, ← el, ← ef, ← eg, t) refl
 
-  pub least-apart : not rises ≡ true → 2 ^ 32 ≡ leastAfter mode una next least r
-  least-apart t = least-unfit (recordFits mode r) refl (fails-in g (leb least o) (ltb o limit) (recordFits mode r) (not-true rises t))
+  pub least_apart : not rises ≡ true → 2 ^ 32 ≡ least_after mode una next least r
+  least_apart t = least_unfit (record_fits mode r) refl (fails_in g (leb least o) (ltb o limit) (record_fits mode r) (not-true rises t))
 
-  pub least-broken : (f : Bool) → f ≡ recordFits mode r → not f ≡ true → 2 ^ 32 ≡ leastAfter mode una next least r
-  least-broken f ef t = least-unfit f ef (rw (not-true f t) (and-false (g && leb least o && ltb o limit)))
+  pub least_broken : (f : Bool) → f ≡ record_fits mode r → not f ≡ true → 2 ^ 32 ≡ least_after mode una next least r
+  least_broken f ef t = least_unfit f ef (rw (not-true f t) (and-false (g && leb least o && ltb o limit)))
 
-  module _ (f : Bool) (ef : f ≡ recordFits mode r) (h : not rises ≡ false) (k : not f ≡ false) where
-    pub least-late : g ≡ false → 2 ^ 32 ≡ leastAfter mode una next least r
-    least-late t = least-unfit f ef (rw t refl)
+  module _ (f : Bool) (ef : f ≡ record_fits mode r) (h : not rises ≡ false) (k : not f ≡ false) where
+    pub least_late : g ≡ false → 2 ^ 32 ≡ least_after mode una next least r
+    least_late t = least_unfit f ef (rw t refl)
 
-    pub least_fits : g ≡ true → o + 1 ≡ leastAfter mode una next least r
+    pub least_fits : g ≡ true → o + 1 ≡ least_after mode una next least r
     least_fits t = rw (← eo, ← el, ← ef, ← eg, t, not-false rises h, not-false f k) refl
 
 -- the records looked at are those of the count
-pub looked-all : (rs : List Record) (n m : ℕ) → length rs ≡ 32 → m ≡ min n 32 → take m rs ≡ take n rs
-looked-all rs n m e f = go (dec_lt n 32)
+pub looked_all : (rs : List Record) (n m : ℕ) → length rs ≡ 32 → m ≡ min n 32 → take m rs ≡ take n rs
+looked_all rs n m e f = go (dec_lt n 32)
   where
     go : Dec (n < 32) → take m rs ≡ take n rs
     go (yes h) = let q : m ≡ n = omega arith in rw q
@@ -135,36 +135,36 @@ looked-all rs n m e f = go (dec_lt n 32)
 
 -- ---- the segments of a half
 
-pub none-whole : (k : ℕ) (m : List ℕ) → m ≡ noneOf k → length m ≡ k
-none-whole k m e = ap length e ∙ length-replicate {A = ℕ} k 0
+pub none_whole : (k : ℕ) (m : List ℕ) → m ≡ none_of k → length m ≡ k
+none_whole k m e = ap length e ∙ length-replicate {A = ℕ} k 0
 
-pub limits-parts : (x y z : Bool) → not (x && y && z) ≡ false → (x ≡ true) × (y ≡ true)
-limits-parts true true z e = (refl, refl)
-limits-parts true false z e = absurd (false≢true (sym e))
-limits-parts false y z e = absurd (false≢true (sym e))
+pub limits_parts : (x y z : Bool) → not (x && y && z) ≡ false → (x ≡ true) × (y ≡ true)
+limits_parts true true z e = (refl, refl)
+limits_parts true false z e = absurd (false≢true (sym e))
+limits_parts false y z e = absurd (false≢true (sym e))
 
 module _ (mss : ℕ) (queued : List ℕ) (n : ℕ) (outstanding transmissions : List ℕ) (m : ℕ) (x y z : Bool) (marks : List ℕ)
-    (ex : x ≡ all (sendWordFits mss) (take n queued)) (ey : y ≡ all (sendWordFits mss) (take m outstanding))
-    (ez : z ≡ all sentFew (take m transmissions)) where
-  pub limits-fail : marks ≡ noneToSend → not (x && y && z) ≡ true → SendingFits mss queued n outstanding transmissions m marks false
-  limits-fail e t =
+    (ex : x ≡ all (send_word_fits mss) (take n queued)) (ey : y ≡ all (send_word_fits mss) (take m outstanding))
+    (ez : z ≡ all sent_few (take m transmissions)) where
+  pub limits_fail : marks ≡ none_to_send → not (x && y && z) ≡ true → SendingFits mss queued n outstanding transmissions m marks false
+  limits_fail e t =
       record {
-        whole = none-whole 128 marks e;
+        whole = none_whole 128 marks e;
         fits = sym (rw (← ex, ← ey, ← ez, not-true (x && y && z) t) refl);
         marked = λ z. absurd (false≢true z);
       }
 
-  pub limits-fit : (r : Bool) → not (x && y && z) ≡ false → r ≡ once (sendSlotsIn queued n outstanding m) → length marks ≡ 128
-      → marks ≡ markedAll noneToSend (sendSlotsIn queued n outstanding m)
+  pub limits_fit : (r : Bool) → not (x && y && z) ≡ false → r ≡ once (send_slots_in queued n outstanding m) → length marks ≡ 128
+      → marks ≡ marked_all none_to_send (send_slots_in queued n outstanding m)
       → SendingFits mss queued n outstanding transmissions m marks r
-  limits-fit r t er w e = record { whole = w; fits = rw (← ex, ← ey, ← ez, not-false (x && y && z) t) er; marked = λ z. e }
+  limits_fit r t er w e = record { whole = w; fits = rw (← ex, ← ey, ← ez, not-false (x && y && z) t) er; marked = λ z. e }
 
 module _ (mss expected : ℕ) (ready : List ℕ) (n : ℕ) (waiting numbers : List ℕ) (m : ℕ) (marks : List ℕ) (x : Bool) (w : length marks ≡ 256)
-    (e : marks ≡ markedAll none (receiveSlotsIn ready n waiting m)) (ex : x ≡ once (receiveSlotsIn ready n waiting m)) where
-  pub slots-fail : not x ≡ true → ReceivingFits mss expected ready n waiting numbers m marks false
-  slots-fail t = record { whole = w; fits = sym (rw (← ex, not-true x t) refl); marked = λ z. e }
+    (e : marks ≡ marked_all none (receive_slots_in ready n waiting m)) (ex : x ≡ once (receive_slots_in ready n waiting m)) where
+  pub slots_fail : not x ≡ true → ReceivingFits mss expected ready n waiting numbers m marks false
+  slots_fail t = record { whole = w; fits = sym (rw (← ex, not-true x t) refl); marked = λ z. e }
 
-  pub slots-fit : (r : Bool) → not x ≡ false
-      → r ≡ (all (wordFits mss) (take n ready) && all (wordFits mss) (take m waiting) && aheadFits expected n numbers m)
+  pub slots_fit_lem : (r : Bool) → not x ≡ false
+      → r ≡ (all (word_fits mss) (take n ready) && all (word_fits mss) (take m waiting) && ahead_fits expected n numbers m)
       → ReceivingFits mss expected ready n waiting numbers m marks r
-  slots-fit r t er = record { whole = w; fits = rw (← ex, not-false x t) er; marked = λ z. e }
+  slots_fit_lem r t er = record { whole = w; fits = rw (← ex, not-false x t) er; marked = λ z. e }

@@ -12,33 +12,33 @@ use Rattle.congestion.specs.Congestions.{fits}
 use Rattle.timing.specs.declared.Record.{Record}
 use Rattle.slots.specs.Slots.{all_below}
 use Rattle.session.specs.Decides.{and_parts}
-use Rattle.session.specs.State.{sendHeld, receiveHeld, slots}
-use Rattle.session.specs.Valid.{roundTripFits, probeFits, valid}
-use Rattle.marks.specs.Marks.{none, noneToSend, markedAll, Free}
-use Rattle.marks.specs.MarkLaws.{free-start}
+use Rattle.session.specs.State.{send_held, receive_held, slots}
+use Rattle.session.specs.Valid.{round_trip_fits, probe_fits, valid}
+use Rattle.marks.specs.Marks.{none, none_to_send, marked_all, Free}
+use Rattle.marks.specs.MarkLaws.{free_start}
 use Rattle.control.specs.declared.Link.{Link}
 use Rattle.control.specs.declared.Flight.{Flight}
 use Rattle.control.specs.declared.Arrival.{Arrival}
 use Rattle.control.specs.declared.Clock.{Clock}
-use Rattle.control.specs.Views.{pairs, Arrays, link_of, Whole, state_of, counted, countsFit, blockValid}
-use Rattle.control.specs.ViewLaws.{pairs-most, Counts, counts}
+use Rattle.control.specs.Views.{pairs, Arrays, link_of, Whole, state_of, counted, counts_fit, block_valid}
+use Rattle.control.specs.ViewLaws.{pairs_most, Counts, counts}
 use Rattle.checking.specs.Tests.{
-  numbersFit,
-  flightFits,
-  sendSlotsIn,
-  receiveSlotsIn,
-  sendingFits,
-  receivingFits,
+  numbers_fit,
+  flight_fits,
+  send_slots_in,
+  receive_slots_in,
+  sending_fits,
+  receiving_fits,
   SendingFits,
   ReceivingFits,
 }
 use Rattle.checking.specs.Verdicts.{Checked}
 use Rattle.checking.proofs.Turns.{not-true, not-false}
-use Rattle.checking.proofs.Joins.{both-low, send-low}
-use Rattle.checking.proofs.Halves.{send-slots, sending-checked, receive-slots, receiving-checked}
+use Rattle.checking.proofs.Joins.{both_low, send_low}
+use Rattle.checking.proofs.Halves.{send_slots_lem, sending_checked, receive_slots_lem, receiving_checked}
 
 abbrev trip : Settings → Flight → Bool
-trip s f = roundTripFits s.mode f.rtt
+trip s f = round_trip_fits s.mode f.rtt
 
 abbrev congested : Settings → Flight → Bool
 congested s f = fits f.congestion (mss s)
@@ -49,19 +49,19 @@ module _ (s : Settings) (f : Flight) (a : Arrival) (k : Clock) where
     pub counting : counted f a ≡ true
     pub ranges : in_range s ≡ true
     pub round : trip s f ≡ true
-    pub probing : probeFits k.probe ≡ true
+    pub probing : probe_fits k.probe ≡ true
     pub congesting : congested s f ≡ true
 
-  numbers_of : true ≡ numbersFit s f a k → Numbers
+  numbers_of : true ≡ numbers_fit s f a k → Numbers
   numbers_of e =
-      let g₀ = and_parts (counted f a && in_range s && trip s f && probeFits k.probe) (congested s f) (sym e) in
-      let g₁ = and_parts (counted f a && in_range s && trip s f) (probeFits k.probe) g₀.0 in
+      let g₀ = and_parts (counted f a && in_range s && trip s f && probe_fits k.probe) (congested s f) (sym e) in
+      let g₁ = and_parts (counted f a && in_range s && trip s f) (probe_fits k.probe) g₀.0 in
       let g₂ = and_parts (counted f a && in_range s) (trip s f) g₁.0 in
       let g₃ = and_parts (counted f a) (in_range s) g₂.0 in
       record { counting = g₃.0; ranges = g₃.1; round = g₂.1; probing = g₁.1; congesting = g₀.1 }
 
   -- the counts fit
-  pub counted_of : true ≡ numbersFit s f a k → Counts f a
+  pub counted_of : true ≡ numbers_fit s f a k → Counts f a
   counted_of e = counts f a (numbers_of e).counting
 
 module _ (s : Settings) (f : Flight) (a : Arrival) (k : Clock) (x : Arrays) (rs : List Record) (whole : Whole x) (many : length rs ≡ 32)
@@ -70,30 +70,30 @@ module _ (s : Settings) (f : Flight) (a : Arrival) (k : Clock) (x : Arrays) (rs 
   link = link_of s f a k x
 
   abbrev sends : Bool
-  sends = sendingFits (mss s) x.queued f.queued x.outstanding x.transmissions f.outstanding
+  sends = sending_fits (mss s) x.queued f.queued x.outstanding x.transmissions f.outstanding
 
   abbrev flies : Bool
-  flies = flightFits s.mode f.una f.next (take f.outstanding rs)
+  flies = flight_fits s.mode f.una f.next (take f.outstanding rs)
 
   abbrev receives : Bool
-  receives = receivingFits (mss s) a.expected x.ready a.ready x.waiting x.numbers a.waiting
+  receives = receiving_fits (mss s) a.expected x.ready a.ready x.waiting x.numbers a.waiting
 
   -- the slots held
-  abbrev sendHolds : List ℕ
-  sendHolds = sendSlotsIn x.queued f.queued x.outstanding f.outstanding
+  abbrev send_holds : List ℕ
+  send_holds = send_slots_in x.queued f.queued x.outstanding f.outstanding
 
-  abbrev receiveHolds : List ℕ
-  receiveHolds = receiveSlotsIn x.ready a.ready x.waiting a.waiting
+  abbrev receive_holds : List ℕ
+  receive_holds = receive_slots_in x.ready a.ready x.waiting a.waiting
 
   module _ (acks : List ℕ) (e : counted f a ≡ true) where
     n : Counts f a
     n = counts f a e
 
     long : f.outstanding ≤ length x.outstanding
-    long = omega (arith, n.outstanding, whole.whole-outstanding)
+    long = omega (arith, n.outstanding, whole.whole_outstanding)
 
     sent : f.outstanding ≤ length x.transmissions
-    sent = omega (arith, n.outstanding, whole.whole-transmissions)
+    sent = omega (arith, n.outstanding, whole.whole_transmissions)
 
     has : f.outstanding ≤ length rs
     has = omega (arith, n.outstanding)
@@ -102,42 +102,42 @@ module _ (s : Settings) (f : Flight) (a : Arrival) (k : Clock) (x : Arrays) (rs 
     ready = omega (arith, n.ready, whole.whole_ready)
 
     waiting : a.waiting ≤ length x.waiting
-    waiting = omega (arith, n.waiting, whole.whole-waiting)
+    waiting = omega (arith, n.waiting, whole.whole_waiting)
 
     side : a.waiting ≤ length x.numbers
     side = omega (arith, n.waiting, whole.whole_numbers)
 
-    block-parts : blockValid link rs acks ≡ (in_range s && (sends && flies && trip s f) && receives && probeFits k.probe && congested s f)
-    unfolding blockValid countsFit valid state_of
-    block-parts =
-        let noted : length (pairs a.acks acks) ≤ 256 = omega (arith, pairs-most a.acks acks, n.acks) in
+    block_parts : block_valid link rs acks ≡ (in_range s && (sends && flies && trip s f) && receives && probe_fits k.probe && congested s f)
+    unfolding block_valid counts_fit valid state_of
+    block_parts =
+        let noted : length (pairs a.acks acks) ≤ 256 = omega (arith, pairs_most a.acks acks, n.acks) in
         rw (
           e,
-          ← sending-checked f x.queued x.outstanding x.transmissions rs long sent has s,
-          ← receiving-checked a x.ready x.waiting x.numbers ready waiting side (pairs a.acks acks) s n.ready n.waiting noted
+          ← sending_checked f x.queued x.outstanding x.transmissions rs long sent has s,
+          ← receiving_checked a x.ready x.waiting x.numbers ready waiting side (pairs a.acks acks) s n.ready n.waiting noted
               below,
         ) refl
 
-    sent-free : all_below 128 sendHolds ≡ true → Free (markedAll noneToSend sendHolds) (slots (sendHeld (state_of link rs acks).sending)) 0
+    sent_free : all_below 128 send_holds ≡ true → Free (marked_all none_to_send send_holds) (slots (send_held (state_of link rs acks).sending)) 0
     unfolding state_of
-    sent-free low = rw (send-slots f x.queued x.outstanding x.transmissions rs long sent has) (free-start 128 sendHolds low)
+    sent_free low = rw (send_slots_lem f x.queued x.outstanding x.transmissions rs long sent has) (free_start 128 send_holds low)
 
-    got-free : Free (markedAll none receiveHolds) (slots (receiveHeld (state_of link rs acks).receiving)) 0
+    got_free : Free (marked_all none receive_holds) (slots (receive_held (state_of link rs acks).receiving)) 0
     unfolding state_of
-    got-free = rw (receive-slots a x.ready x.waiting x.numbers ready waiting side (pairs a.acks acks))
-        (free-start 256 receiveHolds (both-low (take a.ready x.ready) (take a.waiting x.waiting)))
+    got_free = rw (receive_slots_lem a x.ready x.waiting x.numbers ready waiting side (pairs a.acks acks))
+        (free_start 256 receive_holds (both_low (take a.ready x.ready) (take a.waiting x.waiting)))
 
   -- the numbers do not fit
-  pub unfit : (send receive : List ℕ) → false ≡ numbersFit s f a k → length send ≡ 128 → length receive ≡ 256
+  pub unfit : (send receive : List ℕ) → false ≡ numbers_fit s f a k → length send ≡ 128 → length receive ≡ 256
       → Checked link rs send receive false
-  unfolding blockValid countsFit
+  unfolding block_valid counts_fit
   unfit send receive e es er =
       record {
-        send-whole = es;
-        receive-whole = er;
+        send_whole = es;
+        receive_whole = er;
         fits = λ acks. go acks (counted f a) refl;
-        send-free = λ acks z. absurd (false≢true z);
-        receive-free = λ acks z. absurd (false≢true z);
+        send_free = λ acks z. absurd (false≢true z);
+        receive_free = λ acks z. absurd (false≢true z);
       }
     where
       never : (g t p c x y : Bool) → (g && t && p && c) ≡ false → false ≡ (g && (x && t) && y && p && c)
@@ -147,46 +147,46 @@ module _ (s : Settings) (f : Flight) (a : Arrival) (k : Clock) (x : Arrays) (rs 
       never true true true false x y e = sym (and-false (x && true && y && true))
       never true true true true x y e = absurd (false≢true (sym e))
 
-      go : (acks : List ℕ) (z : Bool) → counted f a ≡ z → false ≡ blockValid link rs acks
+      go : (acks : List ℕ) (z : Bool) → counted f a ≡ z → false ≡ block_valid link rs acks
       go acks false z = rw z refl
       go acks true z =
-          never (in_range s) (trip s f) (probeFits k.probe) (congested s f) (sends && flies) receives (sym (rw z at e))
-          ∙ sym (block-parts acks z)
+          never (in_range s) (trip s f) (probe_fits k.probe) (congested s f) (sends && flies) receives (sym (rw z at e))
+          ∙ sym (block_parts acks z)
 
   -- the sending half does not fit
-  pub unsent : (p : ℕ) (send receive : List ℕ) (z : Bool) → true ≡ numbersFit s f a k → p ≡ mss s → not z ≡ true
+  pub unsent : (p : ℕ) (send receive : List ℕ) (z : Bool) → true ≡ numbers_fit s f a k → p ≡ mss s → not z ≡ true
       → SendingFits p x.queued f.queued x.outstanding x.transmissions f.outstanding send z → length receive ≡ 256
       → Checked link rs send receive false
   unsent p send receive z e ep ez h er =
       let g = numbers_of s f a k e in
       record {
-        send-whole = h.whole;
-        receive-whole = er;
-        fits = λ acks. rw (block-parts acks g.counting, g.ranges, ← ep, ← h.fits, not-true z ez) refl;
-        send-free = λ acks z. absurd (false≢true z);
-        receive-free = λ acks z. absurd (false≢true z);
+        send_whole = h.whole;
+        receive_whole = er;
+        fits = λ acks. rw (block_parts acks g.counting, g.ranges, ← ep, ← h.fits, not-true z ez) refl;
+        send_free = λ acks z. absurd (false≢true z);
+        receive_free = λ acks z. absurd (false≢true z);
       }
 
   -- its slots are below 128 where it does
-  sends-low : (p : ℕ) (send : List ℕ) (z : Bool) → not z ≡ false
-      → SendingFits p x.queued f.queued x.outstanding x.transmissions f.outstanding send z → all_below 128 sendHolds ≡ true
-  sends-low p send z ez h =
+  sends_low : (p : ℕ) (send : List ℕ) (z : Bool) → not z ≡ false
+      → SendingFits p x.queued f.queued x.outstanding x.transmissions f.outstanding send z → all_below 128 send_holds ≡ true
+  sends_low p send z ez h =
       let fit = (and_parts _ _ (sym h.fits ∙ not-false z ez)).0 in
       let both = and_parts _ _ (and_parts _ _ fit).0 in
-      send-low (take f.outstanding x.outstanding) (take f.queued x.queued) p both.1 both.0
+      send_low (take f.outstanding x.outstanding) (take f.queued x.queued) p both.1 both.0
 
   -- it does, and the receiving half and the records decide
-  pub sent-fits : (p : ℕ) (send receive : List ℕ) (z y flown : Bool) → true ≡ numbersFit s f a k → p ≡ mss s → not z ≡ false
+  pub sent_fits_lem : (p : ℕ) (send receive : List ℕ) (z y flown : Bool) → true ≡ numbers_fit s f a k → p ≡ mss s → not z ≡ false
       → SendingFits p x.queued f.queued x.outstanding x.transmissions f.outstanding send z → flown ≡ flies
       → ReceivingFits p a.expected x.ready a.ready x.waiting x.numbers a.waiting receive y
       → Checked link rs send receive (y && flown)
-  sent-fits p send receive z y flown e ep ez h₁ h₂ h₃ =
+  sent_fits_lem p send receive z y flown e ep ez h₁ h₂ h₃ =
       let g = numbers_of s f a k e in
       record {
-        send-whole = h₁.whole;
-        receive-whole = h₃.whole;
+        send_whole = h₁.whole;
+        receive_whole = h₃.whole;
         fits = λ acks. rw (
-          block-parts acks g.counting,
+          block_parts acks g.counting,
           g.ranges,
           g.round,
           g.probing,
@@ -197,8 +197,8 @@ module _ (s : Settings) (f : Flight) (a : Arrival) (k : Clock) (x : Arrays) (rs 
           ← h₂,
           ← h₃.fits,
         ) (turn y flown);
-        send-free = λ acks g₁. rw (h₁.marked (not-false z ez)) (sent-free acks g.counting (sends-low p send z ez h₁));
-        receive-free = λ acks g₁. rw (h₃.marked (and_parts y flown g₁).0) (got-free acks g.counting);
+        send_free = λ acks g₁. rw (h₁.marked (not-false z ez)) (sent_free acks g.counting (sends_low p send z ez h₁));
+        receive_free = λ acks g₁. rw (h₃.marked (and_parts y flown g₁).0) (got_free acks g.counting);
       }
     where
       turn : (b c : Bool) → (b && c) ≡ (true && (true && c && true) && b && true && true)

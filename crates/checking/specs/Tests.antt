@@ -1,16 +1,16 @@
 -- What the check of a control block asks of its words, numbers and records, as the code takes it. Definitions.
 -- Assumes nothing.
 use Rattle.std.specs.Prelude.{◌≡◌, Bool, true, cond, not, ◌&&◌, ◌||◌, List, [], ◌∷◌, ◌++◌, ℕ, ◌+◌, ◌-◌, ◌%◌, ◌^◌, leb, ltb, eqb, length, take, get_or}
-use Rattle.protocol.specs.Protocol.{sendSlots, sendWindow, receiveWindow, deadAfter, skipsMost}
+use Rattle.protocol.specs.Protocol.{send_slots, send_window, receive_window, dead_after, skips_most}
 use Rattle.protocol.specs.Ranges.{in_range, mss}
 use Rattle.protocol.specs.Serial.{minus}
 use Rattle.protocol.specs.declared.Settings.{Settings}
 use Rattle.congestion.specs.Congestions.{fits}
 use Rattle.timing.specs.declared.Record.{Record}
 use Rattle.slots.specs.Slots.{slots_of, once}
-use Rattle.session.specs.Valid.{all, heldFits, timeoutFits, roundTripFits, probeFits}
-use Rattle.words.specs.Words.{unpack, heldIn}
-use Rattle.marks.specs.Marks.{none, noneToSend, markedAll}
+use Rattle.session.specs.Valid.{all, held_fits, timeout_fits, round_trip_fits, probe_fits}
+use Rattle.words.specs.Words.{unpack, held_in}
+use Rattle.marks.specs.Marks.{none, none_to_send, marked_all}
 use Rattle.control.specs.declared.Flight.{Flight}
 use Rattle.control.specs.declared.Arrival.{Arrival}
 use Rattle.control.specs.declared.Clock.{Clock}
@@ -18,14 +18,14 @@ use Rattle.control.specs.Views.{counted}
 
 -- ---- one word, and its transmissions
 
-abbrev pub wordFits : ℕ → ℕ → Bool
-wordFits mss w = heldFits mss (unpack w)
+abbrev pub word_fits : ℕ → ℕ → Bool
+word_fits mss w = held_fits mss (unpack w)
 
-abbrev pub sendWordFits : ℕ → ℕ → Bool
-sendWordFits mss w = heldFits mss (unpack w) && ltb (w % 256) sendSlots
+abbrev pub send_word_fits : ℕ → ℕ → Bool
+send_word_fits mss w = held_fits mss (unpack w) && ltb (w % 256) send_slots
 
-abbrev pub sentFew : ℕ → Bool
-sentFew transmissions = leb transmissions deadAfter
+abbrev pub sent_few : ℕ → Bool
+sent_few transmissions = leb transmissions dead_after
 
 -- ---- waiting numbers
 
@@ -42,94 +42,94 @@ neighbours [] = true
 neighbours (a ∷ []) = true
 neighbours (a ∷ b ∷ l) = follows a b && neighbours (b ∷ l)
 
-abbrev pub endsFit : ℕ → ℕ → ℕ → ℕ → Bool
-endsFit first last expected ready =
-    ltb (minus first expected) receiveWindow && ltb (minus last expected) receiveWindow
-    && not (eqb (minus first expected) 0 && ltb ready receiveWindow)
+abbrev pub ends_fit : ℕ → ℕ → ℕ → ℕ → Bool
+ends_fit first last expected ready =
+    ltb (minus first expected) receive_window && ltb (minus last expected) receive_window
+    && not (eqb (minus first expected) 0 && ltb ready receive_window)
 
 -- the first n numbers of an array
-abbrev pub aheadFits : ℕ → ℕ → List ℕ → ℕ → Bool
-aheadFits expected ready numbers n =
-    cond (eqb n 0) true (endsFit (get_or numbers 0 0) (get_or numbers (n - 1) 0) expected ready && neighbours (take n numbers))
+abbrev pub ahead_fits : ℕ → ℕ → List ℕ → ℕ → Bool
+ahead_fits expected ready numbers n =
+    cond (eqb n 0) true (ends_fit (get_or numbers 0 0) (get_or numbers (n - 1) 0) expected ready && neighbours (take n numbers))
 
 -- ---- what is no list
 
-abbrev pub numbersFit : Settings → Flight → Arrival → Clock → Bool
-numbersFit s f a k =
-    counted f a && in_range s && roundTripFits s.mode f.rtt && probeFits k.probe && fits f.congestion (mss s)
+abbrev pub numbers_fit : Settings → Flight → Arrival → Clock → Bool
+numbers_fit s f a k =
+    counted f a && in_range s && round_trip_fits s.mode f.rtt && probe_fits k.probe && fits f.congestion (mss s)
 
 -- ---- records of outstanding segments
 
-abbrev pub recordFits : ℕ → Record → Bool
-recordFits mode r = leb r.skips skipsMost && timeoutFits mode r.timeout
+abbrev pub record_fits : ℕ → Record → Bool
+record_fits mode r = leb r.skips skips_most && timeout_fits mode r.timeout
 
 -- numbers ascend from una, the first at least `least` after it, each less than `limit`
-unfoldable pub recordsFit : ℕ → ℕ → ℕ → ℕ → List Record → Bool
-recordsFit mode una limit least [] = true
-recordsFit mode una limit least (r ∷ l) =
-    leb least (minus r.number una) && ltb (minus r.number una) limit && recordFits mode r
-    && recordsFit mode una limit (minus r.number una + 1) l
+unfoldable pub records_fit : ℕ → ℕ → ℕ → ℕ → List Record → Bool
+records_fit mode una limit least [] = true
+records_fit mode una limit least (r ∷ l) =
+    leb least (minus r.number una) && ltb (minus r.number una) limit && record_fits mode r
+    && records_fit mode una limit (minus r.number una + 1) l
 
 unfoldable pub first_of : List Record → ℕ → ℕ
 first_of [] other = other
 first_of (r ∷ l) other = r.number
 
-abbrev pub flightFits : ℕ → ℕ → ℕ → List Record → Bool
-flightFits mode una next l = leb (minus next una) sendWindow && eqb (first_of l next) una && recordsFit mode una (minus next una) 0 l
+abbrev pub flight_fits : ℕ → ℕ → ℕ → List Record → Bool
+flight_fits mode una next l = leb (minus next una) send_window && eqb (first_of l next) una && records_fit mode una (minus next una) 0 l
 
 -- the same in one pass, which carries the least offset from una that the next number may have: 0 at first, where the number is una; and
 -- 2^32, which no offset is, behind a record that does not fit
-abbrev pub leastAfter : ℕ → ℕ → ℕ → ℕ → Record → ℕ
-leastAfter mode una next least r =
+abbrev pub least_after : ℕ → ℕ → ℕ → ℕ → Record → ℕ
+least_after mode una next least r =
     let offset = minus r.number una in
-    cond ((ltb 0 least || eqb r.number una) && leb least offset && ltb offset (minus next una) && recordFits mode r) (offset + 1)
+    cond ((ltb 0 least || eqb r.number una) && leb least offset && ltb offset (minus next una) && record_fits mode r) (offset + 1)
     (2 ^ 32)
 
-unfoldable pub leastAfterAll : ℕ → ℕ → ℕ → ℕ → List Record → ℕ
-leastAfterAll mode una next least [] = least
-leastAfterAll mode una next least (r ∷ l) = leastAfterAll mode una next (leastAfter mode una next least r) l
+unfoldable pub least_after_all : ℕ → ℕ → ℕ → ℕ → List Record → ℕ
+least_after_all mode una next least [] = least
+least_after_all mode una next least (r ∷ l) = least_after_all mode una next (least_after mode una next least r) l
 
 -- what is carried in the end tells whether all fit
-abbrev pub flownBy : ℕ → ℕ → ℕ → Bool
-flownBy una next least = ltb least (2 ^ 32) && leb (minus next una) sendWindow && (ltb 0 least || eqb next una)
+abbrev pub flown_by : ℕ → ℕ → ℕ → Bool
+flown_by una next least = ltb least (2 ^ 32) && leb (minus next una) send_window && (ltb 0 least || eqb next una)
 
 -- ---- the segments of a half, and the marks left
 
-abbrev pub sendSlotsIn : List ℕ → ℕ → List ℕ → ℕ → List ℕ
-sendSlotsIn queued n outstanding m = slots_of (heldIn outstanding m) ++ slots_of (heldIn queued n)
+abbrev pub send_slots_in : List ℕ → ℕ → List ℕ → ℕ → List ℕ
+send_slots_in queued n outstanding m = slots_of (held_in outstanding m) ++ slots_of (held_in queued n)
 
-abbrev pub sendingFits : ℕ → List ℕ → ℕ → List ℕ → List ℕ → ℕ → Bool
-sendingFits mss queued n outstanding transmissions m =
-    all (sendWordFits mss) (take n queued) && all (sendWordFits mss) (take m outstanding) && all sentFew (take m transmissions)
-    && once (sendSlotsIn queued n outstanding m)
+abbrev pub sending_fits : ℕ → List ℕ → ℕ → List ℕ → List ℕ → ℕ → Bool
+sending_fits mss queued n outstanding transmissions m =
+    all (send_word_fits mss) (take n queued) && all (send_word_fits mss) (take m outstanding) && all sent_few (take m transmissions)
+    && once (send_slots_in queued n outstanding m)
 
 pub record SendingFits (mss : ℕ) (queued : List ℕ) (n : ℕ) (outstanding transmissions : List ℕ) (m : ℕ) (marks : List ℕ) (r : Bool) : Type 0
   where
     pub whole : length marks ≡ 128
-    pub fits : r ≡ sendingFits mss queued n outstanding transmissions m
-    pub marked : r ≡ true → marks ≡ markedAll noneToSend (sendSlotsIn queued n outstanding m)
+    pub fits : r ≡ sending_fits mss queued n outstanding transmissions m
+    pub marked : r ≡ true → marks ≡ marked_all none_to_send (send_slots_in queued n outstanding m)
 
-abbrev pub receiveSlotsIn : List ℕ → ℕ → List ℕ → ℕ → List ℕ
-receiveSlotsIn ready n waiting m = slots_of (heldIn ready n) ++ slots_of (heldIn waiting m)
+abbrev pub receive_slots_in : List ℕ → ℕ → List ℕ → ℕ → List ℕ
+receive_slots_in ready n waiting m = slots_of (held_in ready n) ++ slots_of (held_in waiting m)
 
 -- the slots of words are `from` and those after it, in order
-unfoldable pub inLine : ℕ → List ℕ → Bool
-inLine from [] = true
-inLine from (w ∷ l) = eqb (w % 256) from && inLine (from + 1) l
+unfoldable pub in_line : ℕ → List ℕ → Bool
+in_line from [] = true
+in_line from (w ∷ l) = eqb (w % 256) from && in_line (from + 1) l
 
 -- the slots of both lists are marked; r tells whether none is held twice
 pub record HeldOnce (ready : List ℕ) (n : ℕ) (waiting : List ℕ) (m : ℕ) (marks : List ℕ) (r : Bool) : Type 0 where
   pub whole : length marks ≡ 256
-  pub marked : marks ≡ markedAll none (receiveSlotsIn ready n waiting m)
-  pub held : r ≡ once (receiveSlotsIn ready n waiting m)
+  pub marked : marks ≡ marked_all none (receive_slots_in ready n waiting m)
+  pub held : r ≡ once (receive_slots_in ready n waiting m)
 
-abbrev pub receivingFits : ℕ → ℕ → List ℕ → ℕ → List ℕ → List ℕ → ℕ → Bool
-receivingFits mss expected ready n waiting numbers m =
-    once (receiveSlotsIn ready n waiting m)
-    && (all (wordFits mss) (take n ready) && all (wordFits mss) (take m waiting) && aheadFits expected n numbers m)
+abbrev pub receiving_fits : ℕ → ℕ → List ℕ → ℕ → List ℕ → List ℕ → ℕ → Bool
+receiving_fits mss expected ready n waiting numbers m =
+    once (receive_slots_in ready n waiting m)
+    && (all (word_fits mss) (take n ready) && all (word_fits mss) (take m waiting) && ahead_fits expected n numbers m)
 
 pub record ReceivingFits (mss expected : ℕ) (ready : List ℕ) (n : ℕ) (waiting numbers : List ℕ) (m : ℕ) (marks : List ℕ) (r : Bool) : Type 0
   where
     pub whole : length marks ≡ 256
-    pub fits : r ≡ receivingFits mss expected ready n waiting numbers m
-    pub marked : r ≡ true → marks ≡ markedAll none (receiveSlotsIn ready n waiting m)
+    pub fits : r ≡ receiving_fits mss expected ready n waiting numbers m
+    pub marked : r ≡ true → marks ≡ marked_all none (receive_slots_in ready n waiting m)

@@ -9,40 +9,40 @@ use Rattle.session.specs.State.{Outcome, refused}
 use Rattle.control.specs.declared.Link.{Link}
 use Rattle.checking.specs.declared.Verdict.{Verdict}
 use Rattle.checking.specs.declared.Verdict.TheVariants.{Passed, Refused}
-use Rattle.checking.specs.Verdicts.{Checked, Admitted, Flown, Sound, verdictOf}
+use Rattle.checking.specs.Verdicts.{Checked, Admitted, Flown, Sound, verdict_of}
 
 -- a verdict that is a refusal is the call's
-pub refused-by : {A : Type 0} (own : Outcome A) (long made : Bool) (v : Verdict) (r : Refusal) → v ≡ verdictOf long made → v ≡ Refused r
+pub refused_by_lem : {A : Type 0} (own : Outcome A) (long made : Bool) (v : Verdict) (r : Refusal) → v ≡ verdict_of long made → v ≡ Refused r
     → cond long (cond made own (refused InvalidBlock)) (refused ShortPart) ≡ refused r
-refused-by own false made v r e f = cc
-refused-by own true false v r e f = cc
-refused-by own true true v r e f = absurd (let z : ◌≡◌ {A = ℕ} 0 1 = cc in omega arith)
+refused_by_lem own false made v r e f = cc
+refused_by_lem own true false v r e f = cc
+refused_by_lem own true true v r e f = absurd (let z : ◌≡◌ {A = ℕ} 0 1 = cc in omega arith)
 
 -- one that passes: both checks have passed
 pub record Passes (long made : Bool) : Type 0 where
-  pub long-enough : long ≡ true
-  pub valid-block : made ≡ true
+  pub long_enough_lem : long ≡ true
+  pub valid_block : made ≡ true
 
-pub passed-by : (long made : Bool) (v : Verdict) → v ≡ verdictOf long made → v ≡ Passed → Passes long made
-passed-by true true v e f = record { long-enough = refl; valid-block = refl }
-passed-by true false v e f = absurd (let z : ◌≡◌ {A = ℕ} 0 1 = cc in omega arith)
-passed-by false made v e f = absurd (let z : ◌≡◌ {A = ℕ} 0 1 = cc in omega arith)
+pub passed_by : (long made : Bool) (v : Verdict) → v ≡ verdict_of long made → v ≡ Passed → Passes long made
+passed_by true true v e f = record { long_enough_lem = refl; valid_block = refl }
+passed_by true false v e f = absurd (let z : ◌≡◌ {A = ℕ} 0 1 = cc in omega arith)
+passed_by false made v e f = absurd (let z : ◌≡◌ {A = ℕ} 0 1 = cc in omega arith)
 
 -- a sound block with the records that `flown` tells of: its verdict, and what is known where it passes
 module _ (l : Link) (records : List Record) (send receive : List ℕ) where
-  by-verdict : (long made : Bool) → Checked l records send receive made → verdictOf long made ≡ Passed → Checked l records send receive true
-  by-verdict long true c e = c
-  by-verdict long false c e = absurd (never long e)
+  by_verdict : (long made : Bool) → Checked l records send receive made → verdict_of long made ≡ Passed → Checked l records send receive true
+  by_verdict long true c e = c
+  by_verdict long false c e = absurd (never long e)
     where
-      never : (b : Bool) → verdictOf b false ≡ Passed → ⊥
+      never : (b : Bool) → verdict_of b false ≡ Passed → ⊥
       never true e = let z : ◌≡◌ {A = ℕ} 0 1 = cc in omega arith
       never false e = let z : ◌≡◌ {A = ℕ} 0 1 = cc in omega arith
 
-  pub admitted : (long sound flown : Bool) (v : Verdict) → v ≡ verdictOf long (sound && flown) → Sound l send receive sound
+  pub admitted : (long sound flown : Bool) (v : Verdict) → v ≡ verdict_of long (sound && flown) → Sound l send receive sound
       → Flown l records flown → Admitted long l records send receive v
   admitted long sound flown v e s w =
       let c = s flown records w in
       record {
-        verdict = λ acks. e ∙ ap (verdictOf long) (c.fits acks);
-        checked = λ p. by-verdict long (sound && flown) c (sym e ∙ p);
+        verdict = λ acks. e ∙ ap (verdict_of long) (c.fits acks);
+        checked = λ p. by_verdict long (sound && flown) c (sym e ∙ p);
       }

@@ -3,26 +3,26 @@
 use Rattle.std.specs.Prelude.{◌≡◌, Bool, true, cond, ◌&&◌, List, ℕ, length, take}
 use Rattle.protocol.specs.declared.Refusal.TheVariants.{ShortPart, InvalidBlock}
 use Rattle.timing.specs.declared.Record.{Record}
-use Rattle.session.specs.State.{sendHeld, receiveHeld, slots}
+use Rattle.session.specs.State.{send_held, receive_held, slots}
 use Rattle.marks.specs.Marks.{Free}
 use Rattle.control.specs.declared.Link.{Link}
-use Rattle.control.specs.Views.{state_of, blockValid}
-use Rattle.checking.specs.Tests.{flightFits}
+use Rattle.control.specs.Views.{state_of, block_valid}
+use Rattle.checking.specs.Tests.{flight_fits}
 use Rattle.checking.specs.declared.Verdict.{Verdict}
 use Rattle.checking.specs.declared.Verdict.TheVariants.{Passed, Refused}
 
 -- 13 is given exactly where the block is not valid; else the marks tell the free slots of both pools
 pub record Checked (l : Link) (records : List Record) (send receive : List ℕ) (r : Bool) : Type 0 where
-  pub send-whole : length send ≡ 128
-  pub receive-whole : length receive ≡ 256
-  pub fits : (acks : List ℕ) → r ≡ blockValid l records acks
-  pub send-free : (acks : List ℕ) → r ≡ true → Free send (slots (sendHeld (state_of l records acks).sending)) 0
-  pub receive-free : (acks : List ℕ) → r ≡ true → Free receive (slots (receiveHeld (state_of l records acks).receiving)) 0
+  pub send_whole : length send ≡ 128
+  pub receive_whole : length receive ≡ 256
+  pub fits : (acks : List ℕ) → r ≡ block_valid l records acks
+  pub send_free : (acks : List ℕ) → r ≡ true → Free send (slots (send_held (state_of l records acks).sending)) 0
+  pub receive_free : (acks : List ℕ) → r ≡ true → Free receive (slots (receive_held (state_of l records acks).receiving)) 0
 
 -- `flown` tells whether these 32 records fit, of which the first are the outstanding segments'
 pub record Flown (l : Link) (records : List Record) (flown : Bool) : Type 0 where
   pub whole : length records ≡ 32
-  pub fits : flown ≡ flightFits l.settings.mode l.flight.una l.flight.next (take l.flight.outstanding records)
+  pub fits : flown ≡ flight_fits l.settings.mode l.flight.una l.flight.next (take l.flight.outstanding records)
 
 -- so it is for whatever records `flown` tells of
 abbrev pub ByFlown : Link → Bool → (List Record → Type 0) → Type 0
@@ -33,12 +33,12 @@ abbrev pub Flies : Link → Bool → Type 0
 Flies l flown = (records : List Record) × Flown l records flown
 
 -- the lent sizes, then the block
-abbrev pub verdictOf : Bool → Bool → Verdict
-verdictOf long made = cond long (cond made Passed (Refused InvalidBlock)) (Refused ShortPart)
+abbrev pub verdict_of : Bool → Bool → Verdict
+verdict_of long made = cond long (cond made Passed (Refused InvalidBlock)) (Refused ShortPart)
 
 -- the verdict of both, and what is known of a block that passed
 pub record Admitted (long : Bool) (l : Link) (records : List Record) (send receive : List ℕ) (v : Verdict) : Type 0 where
-  pub verdict : (acks : List ℕ) → v ≡ verdictOf long (blockValid l records acks)
+  pub verdict : (acks : List ℕ) → v ≡ verdict_of long (block_valid l records acks)
   pub checked : v ≡ Passed → Checked l records send receive true
 
 -- ---- a block that is sound: all but the records of its outstanding segments is as 13 asks

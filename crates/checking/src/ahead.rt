@@ -1,6 +1,6 @@
 // The numbers of waiting segments.
 ghost use Rattle.std.specs.Prelude.{◌≡◌, ◌≤◌, length, take};
-ghost use Rattle.checking.specs.Tests.{follows, neighbours, endsFit, aheadFits};
+ghost use Rattle.checking.specs.Tests.{follows, neighbours, ends_fit, ahead_fits};
 
 use protocol::serial;
 
@@ -28,7 +28,7 @@ fn ascend(numbers: &[u32; 128], n: usize) -> bool
 // The first and the last waiting number are less than 128 after `expected`, and the first is not `expected` while fewer than
 // 128 are ready.
 fn ends_fit(first: u32, last: u32, expected: u32, ready: usize) -> bool
-    ensures { result ≡ endsFit first last expected ready }
+    ensures { result ≡ ends_fit first last expected ready }
 {
     let near = serial::difference(first, expected);
     let far = serial::difference(last, expected);
@@ -38,7 +38,7 @@ fn ends_fit(first: u32, last: u32, expected: u32, ready: usize) -> bool
 // Waiting numbers ascend from `expected`, less than 128 after it, and not from it on while fewer than 128 are ready.
 pub fn ahead_fits(numbers: &[u32; 128], n: usize, expected: u32, ready: usize) -> bool
     requires { (length numbers.now ≡ 128) × (n ≤ 128) }
-    ensures { result ≡ aheadFits expected ready numbers.now n }
+    ensures { result ≡ ahead_fits expected ready numbers.now n }
 {
     if n == 0 {
         return true;

@@ -1,8 +1,8 @@
 // The records of the outstanding segments, with their numbers, in one pass: what is carried from record to record is the least offset
 // from snd_una that the next number may have.
 ghost use Rattle.std.specs.Prelude.{◌≡◌, ◌≤◌, min, length, take};
-ghost use Rattle.record_words.specs.RecordWords.{recordsIn};
-ghost use Rattle.checking.specs.Tests.{recordFits, flightFits, leastAfter, flownBy};
+ghost use Rattle.record_words.specs.RecordWords.{records_in};
+ghost use Rattle.checking.specs.Tests.{record_fits, flight_fits, least_after, flown_by};
 
 use crate::numbers::timeout_fits;
 use control::Flight;
@@ -14,7 +14,7 @@ const UNFIT: usize = 4294967296;
 
 // Skips at most 255, and the timeout.
 fn record_fits(record: Record, mode: u8) -> bool
-    ensures { result ≡ recordFits mode «record» }
+    ensures { result ≡ record_fits mode «record» }
 {
     (record.skips <= Protocol::SKIPS_MOST) & timeout_fits(mode, record.timeout)
 }
@@ -32,7 +32,7 @@ pub fn looked_at(flight: Flight) -> usize
 
 // One record more: its number is at least `least` after snd_una, the first is snd_una, and each is before snd_nxt.
 pub fn next_least(least: usize, found: Record, settings: Settings, flight: Flight) -> usize
-    ensures { result ≡ leastAfter settings.mode flight.una flight.next least found }
+    ensures { result ≡ least_after settings.mode flight.una flight.next least found }
 {
     let offset = serial::difference(found.number, flight.una);
     let far = offset as usize;
@@ -50,7 +50,7 @@ pub fn next_least(least: usize, found: Record, settings: Settings, flight: Fligh
 
 // What the pass says: snd_una and snd_nxt are at most 32 apart, and with no record they are the same.
 pub fn flown(least: usize, flight: Flight) -> bool
-    ensures { result ≡ flownBy flight.una flight.next least }
+    ensures { result ≡ flown_by flight.una flight.next least }
 {
     let limit = serial::difference(flight.next, flight.una);
     (least < UNFIT) & (limit <= Protocol::SEND_WINDOW) & ((0 < least) | (flight.next == flight.una))
@@ -59,8 +59,8 @@ pub fn flown(least: usize, flight: Flight) -> bool
 // The outstanding segments' numbers and records: from snd_una on up to snd_nxt, at most 32 apart, the first being snd_una.
 pub fn flight_fits(records: &[u32; 128], settings: Settings, flight: Flight) -> bool
     requires { length records.now ≡ 128 }
-    ensures { result ≡ flightFits settings.mode flight.una flight.next
-        (take flight.outstanding (recordsIn records.now)) }
+    ensures { result ≡ flight_fits settings.mode flight.una flight.next
+        (take flight.outstanding (records_in records.now)) }
 {
     let n = looked_at(flight);
     let mut least: usize = 0;

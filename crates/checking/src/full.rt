@@ -2,7 +2,7 @@
 // no segment is looked at on its own.
 ghost use Rattle.std.specs.Prelude.{◌≡◌, ◌≤◌, ◌%◌, eqb, length, take};
 ghost use Rattle.marks.specs.Marks.{none};
-ghost use Rattle.checking.specs.Tests.{inLine, HeldOnce};
+ghost use Rattle.checking.specs.Tests.{in_line, HeldOnce};
 
 // Whether a word's slot is this one.
 fn is_at(word: u32, slot: u32) -> bool
@@ -14,7 +14,7 @@ fn is_at(word: u32, slot: u32) -> bool
 // Whether the slots of 128 words are `from` and those after it, in order.
 fn in_line(words: &[u32; 128], from: u32) -> bool
     requires { (length words.now ≡ 128) × (from ≤ 128) }
-    ensures { result ≡ inLine from (take 128 words.now) }
+    ensures { result ≡ in_line from (take 128 words.now) }
 {
     let mut fit = true;
     let mut slot = from;

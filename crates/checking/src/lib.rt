@@ -7,10 +7,10 @@ pub mod limits;
 pub mod numbers;
 
 ghost use Rattle.std.specs.Prelude.{◌≡◌, ◌≤◌, length};
-ghost use Rattle.marks.specs.Marks.{none, noneToSend};
+ghost use Rattle.marks.specs.Marks.{none, none_to_send};
 ghost use Rattle.control.specs.Views.{arrays, link_of, Whole};
 ghost use Rattle.checking.specs.Tests.{SendingFits, ReceivingFits};
-ghost use Rattle.checking.specs.Verdicts.{Sound, verdictOf};
+ghost use Rattle.checking.specs.Verdicts.{Sound, verdict_of};
 
 use control::{Arrival, Clock, Flight};
 use protocol::{Refusal, Settings};
@@ -24,7 +24,7 @@ pub enum Verdict {
 
 // 7, then 13.
 pub fn judged(long: bool, made: bool) -> Verdict
-    ensures { result ≡ verdictOf long made }
+    ensures { result ≡ verdict_of long made }
 {
     if !long {
         return Verdict::Refused(Refusal::ShortPart);
@@ -47,7 +47,7 @@ fn sending_fits(
     marks: &mut [u8; 128],
 ) -> bool
     requires { (length queued.now ≡ 128) × (n ≤ 128) × (length outstanding.now ≡ 32) × (length transmissions.now ≡ 32) × (m ≤ 32)
-        × (marks.old ≡ noneToSend) }
+        × (marks.old ≡ none_to_send) }
     ensures { SendingFits mss queued.now n outstanding.now transmissions.now m
         marks.new result }
 {
@@ -104,7 +104,7 @@ pub fn sound(
     receive_marks: &mut [u8; 256],
 ) -> bool
     requires { Whole (arrays queued.now outstanding.now transmissions.now ready.now waiting.now waiting_numbers.now)
-        × (send_marks.old ≡ noneToSend) × (receive_marks.old ≡ none) }
+        × (send_marks.old ≡ none_to_send) × (receive_marks.old ≡ none) }
     ensures { Sound (link_of settings flight arrival clock (arrays queued.now outstanding.now
         transmissions.now ready.now waiting.now waiting_numbers.now))
         send_marks.new receive_marks.new result }

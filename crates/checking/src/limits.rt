@@ -1,20 +1,20 @@
 // The limits of held segments, each a pass over an array with no early exit.
 ghost use Rattle.std.specs.Prelude.{◌≡◌, ◌≤◌, length, take};
 ghost use Rattle.session.specs.Valid.{all};
-ghost use Rattle.checking.specs.Tests.{wordFits, sendWordFits, sentFew};
+ghost use Rattle.checking.specs.Tests.{word_fits, send_word_fits, sent_few};
 
 use protocol::Protocol;
 
 // Length at most mss, fragment number at most 126.
 fn word_fits(word: u32, mss: u16) -> bool
-    ensures { result ≡ wordFits mss word }
+    ensures { result ≡ word_fits mss word }
 {
     (word / 65536 <= mss as u32) & (word / 256 % 256 <= 126)
 }
 
 // The same, and the slot below 128.
 fn send_word_fits(word: u32, mss: u16) -> bool
-    ensures { result ≡ sendWordFits mss word }
+    ensures { result ≡ send_word_fits mss word }
 {
     (word / 65536 <= mss as u32) & (word / 256 % 256 <= 126) & (word % 256 < 128)
 }
@@ -22,7 +22,7 @@ fn send_word_fits(word: u32, mss: u16) -> bool
 // Each of n words of the receiving half fits.
 pub fn held_fit(words: &[u32; 128], n: usize, mss: u16) -> bool
     requires { (length words.now ≡ 128) × (n ≤ 128) }
-    ensures { result ≡ all (wordFits mss) (take n words.now) }
+    ensures { result ≡ all (word_fits mss) (take n words.now) }
 {
     let mut fit = true;
     let mut i: usize = 0;
@@ -36,7 +36,7 @@ pub fn held_fit(words: &[u32; 128], n: usize, mss: u16) -> bool
 // Each of n queued words fits.
 pub fn queued_fit(words: &[u32; 128], n: usize, mss: u16) -> bool
     requires { (length words.now ≡ 128) × (n ≤ 128) }
-    ensures { result ≡ all (sendWordFits mss) (take n words.now) }
+    ensures { result ≡ all (send_word_fits mss) (take n words.now) }
 {
     let mut fit = true;
     let mut i: usize = 0;
@@ -50,7 +50,7 @@ pub fn queued_fit(words: &[u32; 128], n: usize, mss: u16) -> bool
 // Each of n outstanding words fits.
 pub fn outstanding_fit(words: &[u32; 32], n: usize, mss: u16) -> bool
     requires { (length words.now ≡ 32) × (n ≤ 32) }
-    ensures { result ≡ all (sendWordFits mss) (take n words.now) }
+    ensures { result ≡ all (send_word_fits mss) (take n words.now) }
 {
     let mut fit = true;
     let mut i: usize = 0;
@@ -64,7 +64,7 @@ pub fn outstanding_fit(words: &[u32; 32], n: usize, mss: u16) -> bool
 // Each of n outstanding segments was transmitted 20 times at most.
 pub fn transmissions_fit(transmissions: &[u8; 32], n: usize) -> bool
     requires { (length transmissions.now ≡ 32) × (n ≤ 32) }
-    ensures { result ≡ all sentFew (take n transmissions.now) }
+    ensures { result ≡ all sent_few (take n transmissions.now) }
 {
     let mut fit = true;
     let mut i: usize = 0;

@@ -2,9 +2,9 @@
 ghost use Rattle.std.specs.Prelude.{◌≡◌};
 ghost use Rattle.protocol.specs.Ranges.{mss};
 ghost use Rattle.congestion.specs.Congestions.{fits};
-ghost use Rattle.session.specs.Valid.{timeoutFits, roundTripFits, probeFits};
+ghost use Rattle.session.specs.Valid.{timeout_fits, round_trip_fits, probe_fits};
 ghost use Rattle.control.specs.Views.{counted};
-ghost use Rattle.checking.specs.Tests.{numbersFit};
+ghost use Rattle.checking.specs.Tests.{numbers_fit};
 
 use congestion::Congestion;
 use control::{Arrival, Clock, Flight};
@@ -16,21 +16,21 @@ const HALF: u32 = 2147483648;
 
 // A timeout from the mode's least to 60,000.
 pub fn timeout_fits(mode: u8, timeout: u32) -> bool
-    ensures { result ≡ timeoutFits mode timeout }
+    ensures { result ≡ timeout_fits mode timeout }
 {
     (round_trip::least_timeout(mode) <= timeout) & (timeout <= Protocol::TIMEOUT_MOST)
 }
 
 // Smoothed time and variation below 2^31, and the timeout.
 fn round_trip_fits(mode: u8, trip: RoundTrip) -> bool
-    ensures { result ≡ roundTripFits mode trip }
+    ensures { result ≡ round_trip_fits mode trip }
 {
     (trip.smoothed < HALF) & (trip.variation < HALF) & timeout_fits(mode, trip.timeout)
 }
 
 // A wait of 0, or of 7,000 to 120,000.
 fn probe_fits(probe: ProbeClock) -> bool
-    ensures { result ≡ probeFits probe }
+    ensures { result ≡ probe_fits probe }
 {
     (probe.wait == 0)
         | (Protocol::PROBE_WAIT_LEAST <= probe.wait) & (probe.wait <= Protocol::PROBE_WAIT_MOST)
@@ -57,7 +57,7 @@ fn congestion_fits(settings: Settings, congestion: Congestion) -> bool
 
 // All that is no list.
 pub fn numbers_fit(settings: Settings, flight: Flight, arrival: Arrival, clock: Clock) -> bool
-    ensures { result ≡ numbersFit settings flight arrival clock }
+    ensures { result ≡ numbers_fit settings flight arrival clock }
 {
     let counts = counts_fit(flight, arrival);
     let ranges = settings.in_range();

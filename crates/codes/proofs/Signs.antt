@@ -9,7 +9,7 @@ use mir.Syntax.{w32}
 use mir.Val.{SFits, to_z, of_z}
 use mir.ValLaws.{to_z-of_z}
 use Rattle.protocol.specs.Refusals.{number_of}
-use Rattle.codes.specs.Codes.{numberCode, refusalCode, sizeCode}
+use Rattle.codes.specs.Codes.{number_code, refusal_code, size_code}
 use Rattle.protocol.specs.declared.Refusal.{Refusal}
 use Rattle.protocol.specs.declared.Refusal.TheVariants.{
   ShortDatagram,
@@ -28,7 +28,7 @@ use Rattle.protocol.specs.declared.Refusal.TheVariants.{
 }
 
 -- the negative of a byte fits 32 bits
-pub negative_fits : (n : ℕ) → n < 2 ^ 8 → SFits w32 (numberCode n)
+pub negative_fits : (n : ℕ) → n < 2 ^ 8 → SFits w32 (number_code n)
 negative_fits zero h = record { sfits = omega arith }
 negative_fits (suc n) h = record { sfits = rw (lt-ltb 0 (suc n) (omega arith)) (omega arith) }
 
@@ -49,11 +49,11 @@ number_small InvalidBlock = omega arith
 number_small TrailingBytes = omega arith
 
 -- so its code fits
-pub code_fits : (r : Refusal) → SFits w32 (refusalCode r)
+pub code_fits : (r : Refusal) → SFits w32 (refusal_code r)
 code_fits r = negative_fits (number_of r) (number_small r)
 
 -- a count that is told fits
-pub size_fits : (n : ℕ) → SFits w32 (sizeCode n)
+pub size_fits : (n : ℕ) → SFits w32 (size_code n)
 size_fits n = record { sfits = omega arith }
 
 -- a code that a function gave is the code that it is passed on as

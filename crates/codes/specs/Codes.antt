@@ -14,47 +14,47 @@ use Rattle.answers.specs.declared.Time.{Time}
 use Rattle.answers.specs.declared.Time.TheVariants as time
 
 -- 0 less a refusal's number
-abbrev pub numberCode : ℕ → ℤ
-numberCode n = pos 0 -ℤ pos n
+abbrev pub number_code : ℕ → ℤ
+number_code n = pos 0 -ℤ pos n
 
-abbrev pub refusalCode : Refusal → ℤ
-refusalCode r = numberCode (number_of r)
+abbrev pub refusal_code : Refusal → ℤ
+refusal_code r = number_code (number_of r)
 
 -- 0 where the call is accepted
-abbrev pub answerCode : Answer → ℤ
-answerCode answer.Accepted = pos 0
-answerCode (answer.Refused r) = refusalCode r
+abbrev pub answer_code : Answer → ℤ
+answer_code answer.Accepted = pos 0
+answer_code (answer.Refused r) = refusal_code r
 
 -- a count is told up to 2^31 - 1, which no count of a call reaches: C gets it as it is (crate `counts`)
-abbrev pub sizeCode : ℕ → ℤ
-sizeCode n = pos (min n 2147483647)
+abbrev pub size_code : ℕ → ℤ
+size_code n = pos (min n 2147483647)
 
-abbrev pub countCode : Count → ℤ
-countCode (count.Of n) = sizeCode n
-countCode (count.Refused r) = refusalCode r
+abbrev pub count_code : Count → ℤ
+count_code (count.Of n) = size_code n
+count_code (count.Refused r) = refusal_code r
 
 -- an update that did not flush: no count, and no refusal's, whose number is a byte (crate `counts`)
-abbrev pub notYet : ℤ
-notYet = numberCode 256
+abbrev pub not_yet : ℤ
+not_yet = number_code 256
 
-abbrev pub updateCode : Update → ℤ
-updateCode update.Waited = notYet
-updateCode (update.Wrote n) = sizeCode n
-updateCode (update.Refused r) = refusalCode r
+abbrev pub update_code : Update → ℤ
+update_code update.Waited = not_yet
+update_code (update.Wrote n) = size_code n
+update_code (update.Refused r) = refusal_code r
 
 -- 0 where a check names a time, which is stored
-abbrev pub timeCode : Time → ℤ
-timeCode (time.At t) = pos 0
-timeCode (time.Refused r) = refusalCode r
+abbrev pub time_code : Time → ℤ
+time_code (time.At t) = pos 0
+time_code (time.Refused r) = refusal_code r
 
 -- what is stored then; refused, what was there stays
-abbrev pub timeStored : Time → ℕ → ℕ
-timeStored (time.At t) was = t
-timeStored (time.Refused r) was = was
+abbrev pub time_stored : Time → ℕ → ℕ
+time_stored (time.At t) was = t
+time_stored (time.Refused r) was = was
 
 -- settings from plain numbers: one that is beyond its width becomes the largest of that width, which is out of range too
-abbrev pub settingsOf : ℕ → ℕ → ℕ → ℕ → ℕ → ℕ → ℕ → Settings
-settingsOf conv mtu mode interval threshold stream congestion =
+abbrev pub settings_of : ℕ → ℕ → ℕ → ℕ → ℕ → ℕ → ℕ → Settings
+settings_of conv mtu mode interval threshold stream congestion =
     record {
       conv = conv;
       mtu = min mtu 65535;

@@ -1,7 +1,7 @@
 // Numbers for callers in C: answers as 0 or a count, or the refusal's number below zero; settings from plain numbers.
 ghost use Rattle.std.specs.Prelude.{◌≡◌, min};
-ghost use Rattle.codes.specs.Codes.{numberCode, refusalCode, answerCode, sizeCode, countCode};
-ghost use Rattle.codes.specs.Codes.{updateCode, timeCode, timeStored, settingsOf};
+ghost use Rattle.codes.specs.Codes.{number_code, refusal_code, answer_code, size_code, count_code};
+ghost use Rattle.codes.specs.Codes.{update_code, time_code, time_stored, settings_of};
 
 use answers::{Answer, Count, Time, Update};
 use protocol::{Protocol, Refusal, Settings};
@@ -14,21 +14,21 @@ const NOT_YET: i32 = -256;
 
 // A refusal's number, below zero.
 pub fn number_code(number: u8) -> i32
-    ensures { result ≡ numberCode number }
+    ensures { result ≡ number_code number }
 {
     let n = number as i32;
     0 - n
 }
 
 fn refusal_code(refusal: Refusal) -> i32
-    ensures { result ≡ refusalCode refusal }
+    ensures { result ≡ refusal_code refusal }
 {
     number_code(refusal.number())
 }
 
 // 0, or the refusal.
 pub fn answer_code(answer: Answer) -> i32
-    ensures { result ≡ answerCode answer }
+    ensures { result ≡ answer_code answer }
 {
     match answer {
         Answer::Accepted => 0,
@@ -38,7 +38,7 @@ pub fn answer_code(answer: Answer) -> i32
 
 // A count.
 pub fn size_code(n: usize) -> i32
-    ensures { result ≡ sizeCode n }
+    ensures { result ≡ size_code n }
 {
     if n <= COUNT_MOST {
         n as i32
@@ -49,7 +49,7 @@ pub fn size_code(n: usize) -> i32
 
 // The count, or the refusal.
 pub fn count_code(count: Count) -> i32
-    ensures { result ≡ countCode count }
+    ensures { result ≡ count_code count }
 {
     match count {
         Count::Of(n) => size_code(n),
@@ -59,7 +59,7 @@ pub fn count_code(count: Count) -> i32
 
 // The count of an update's datagrams, the number of one that did not flush, or the refusal.
 pub fn update_code(update: Update) -> i32
-    ensures { result ≡ updateCode update }
+    ensures { result ≡ update_code update }
 {
     match update {
         Update::Waited => NOT_YET,
@@ -70,7 +70,7 @@ pub fn update_code(update: Update) -> i32
 
 // A check's time is stored, and 0 returned, or the refusal.
 pub fn tell_time(time: Time, when: &mut u32) -> i32
-    ensures { (result ≡ timeCode time) × (when.new ≡ timeStored time when.old) }
+    ensures { (result ≡ time_code time) × (when.new ≡ time_stored time when.old) }
 {
     match time {
         Time::At(t) => {
@@ -112,7 +112,7 @@ pub fn settings(
     stream: u32,
     congestion: u32,
 ) -> Settings
-    ensures { result ≡ settingsOf conv mtu mode interval threshold stream congestion }
+    ensures { result ≡ settings_of conv mtu mode interval threshold stream congestion }
 {
     Protocol::settings(
         conv,

@@ -3,18 +3,18 @@
 use Rattle.std.specs.Prelude.{◌≡◌, refl, Bool, true, false, List, [], ◌∷◌, map, ℕ, ◌*◌}
 use Rattle.congestion.specs.Congestions.{
   initial,
-  usedWindow,
-  slowStart,
+  used_window,
+  slow_start,
   raised,
   widened,
   avoidance,
   limited,
   grown,
   halved,
-  bySkips,
-  byTimeout,
-  atLeastOne,
-  afterFlush,
+  by_skips,
+  by_timeout,
+  at_least_one,
+  after_flush,
 }
 use Rattle.congestion.specs.declared.Congestion.{Congestion}
 use Rattle.congestion.specs.declared.Losses.{Losses}
@@ -34,7 +34,7 @@ pub record Case : Type 0 where
 unfoldable pub cases : List Case
 cases =
     -- the first flush leaves window 1
-    record { is = afterFlush initial 26 (losing false false 0 0); wanted = of 1 2 26 }
+    record { is = after_flush initial 26 (losing false false 0 0); wanted = of 1 2 26 }
     -- below the threshold one segment more; from there by the allowance
     ∷ record { is = grown (of 1 2 26) 26 128; wanted = of 2 2 52 }
     ∷ record { is = grown (of 2 2 52) 26 128; wanted = of 2 2 66 }
@@ -50,21 +50,21 @@ cases =
     -- the largest values
     ∷ record { is = grown (of 65534 16 (65535 * 1376)) 1376 65535; wanted = of 65535 16 (65535 * 1376) }
     -- loss by skips: half of what is in flight, 2 at least, and 2 more
-    ∷ record { is = afterFlush (of 20 2 520) 26 (losing true false 10 20); wanted = of 7 5 182 }
-    ∷ record { is = afterFlush (of 20 2 520) 26 (losing true false 3 20); wanted = of 4 2 104 }
+    ∷ record { is = after_flush (of 20 2 520) 26 (losing true false 10 20); wanted = of 7 5 182 }
+    ∷ record { is = after_flush (of 20 2 520) 26 (losing true false 3 20); wanted = of 4 2 104 }
     -- by timeout: half of the window used; where both come, the timeout's values are left
-    ∷ record { is = afterFlush (of 20 2 520) 26 (losing false true 10 32); wanted = of 1 16 26 }
-    ∷ record { is = afterFlush (of 20 2 520) 26 (losing true true 10 3); wanted = of 1 2 26 }
+    ∷ record { is = after_flush (of 20 2 520) 26 (losing false true 10 32); wanted = of 1 16 26 }
+    ∷ record { is = after_flush (of 20 2 520) 26 (losing true true 10 3); wanted = of 1 2 26 }
     -- no loss
-    ∷ record { is = afterFlush (of 20 2 520) 26 (losing false false 10 20); wanted = of 20 2 520 }
+    ∷ record { is = after_flush (of 20 2 520) 26 (losing false false 10 20); wanted = of 20 2 520 }
     ∷ []
 
-pub cases-hold : map (λ (c : Case). c.is) cases ≡ map (λ (c : Case). c.wanted) cases
-unfolding cases slowStart raised widened avoidance limited grown halved bySkips byTimeout atLeastOne afterFlush
-cases-hold = refl
+pub cases_hold : map (λ (c : Case). c.is) cases ≡ map (λ (c : Case). c.wanted) cases
+unfolding cases slow_start raised widened avoidance limited grown halved by_skips by_timeout at_least_one after_flush
+cases_hold = refl
 
 -- the window used: with the setting off; on at the first flush; the peer's; this one; 32
-pub used-hold : (usedWindow false 128 0 ∷ usedWindow true 128 0 ∷ usedWindow true 5 9 ∷ usedWindow true 128 7 ∷ usedWindow true 128 40 ∷ [])
+pub used_hold : (used_window false 128 0 ∷ used_window true 128 0 ∷ used_window true 5 9 ∷ used_window true 128 7 ∷ used_window true 128 40 ∷ [])
     ≡ (32 ∷ 0 ∷ 5 ∷ 7 ∷ 32 ∷ [])
-unfolding usedWindow
-used-hold = refl
+unfolding used_window
+used_hold = refl

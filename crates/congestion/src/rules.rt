@@ -2,19 +2,19 @@
 ghost use Rattle.std.specs.Prelude.{◌≡◌, ◌+◌, ◌^◌, ◌<◌, min, max};
 ghost use Rattle.congestion.specs.Congestions.{
   initial,
-  usedWindow,
+  used_window,
   raised,
   widened,
-  slowStart,
+  slow_start,
   avoidance,
   limited,
   grown,
-  afterDatagram,
+  after_datagram,
   halved,
-  bySkips,
-  byTimeout,
-  atLeastOne,
-  afterFlush,
+  by_skips,
+  by_timeout,
+  at_least_one,
+  after_flush,
   fits,
   Growable,
   Countable,
@@ -37,7 +37,7 @@ fn smaller(a: u32, b: u32) -> u32
 
 // The window that a flush goes by: the least of 32, the peer's window and, with the setting on, the congestion window.
 pub fn used_window(on: bool, peer: u16, window: u32) -> u32
-    ensures { result ≡ usedWindow on peer window }
+    ensures { result ≡ used_window on peer window }
 {
     let most = smaller(Protocol::SEND_WINDOW, peer as u32);
     if on { smaller(most, window) } else { most }
@@ -67,7 +67,7 @@ fn widened(window: u32, allowance: u32, mss: u32) -> u32
 // Growth below the threshold.
 fn slow_start(c: Congestion, mss: u32) -> Congestion
     requires { Growable mss c }
-    ensures { result ≡ slowStart c mss }
+    ensures { result ≡ slow_start c mss }
 {
     Congestion {
         window: c.window + 1,
@@ -116,7 +116,7 @@ fn halved(segments: u32) -> u32
 // Loss by skips.
 fn by_skips(losses: Losses, mss: u32) -> Congestion
     requires { Countable mss losses }
-    ensures { result ≡ bySkips losses mss }
+    ensures { result ≡ by_skips losses mss }
 {
     let threshold = halved(losses.inflight);
     let window = threshold + losses.skips as u32;
@@ -129,7 +129,7 @@ fn by_skips(losses: Losses, mss: u32) -> Congestion
 
 // Loss by timeout.
 fn by_timeout(losses: Losses, mss: u32) -> Congestion
-    ensures { result ≡ byTimeout losses mss }
+    ensures { result ≡ by_timeout losses mss }
 {
     Congestion {
         window: 1,
@@ -140,7 +140,7 @@ fn by_timeout(losses: Losses, mss: u32) -> Congestion
 
 // A window under 1 becomes 1.
 fn at_least_one(c: Congestion, mss: u32) -> Congestion
-    ensures { result ≡ atLeastOne c mss }
+    ensures { result ≡ at_least_one c mss }
 {
     if c.window < 1 {
         Congestion {
@@ -182,7 +182,7 @@ impl Congestion {
     // After a datagram, by snd_una before and after it and the peer's window after it.
     pub fn after_datagram(self, mss: u32, before: u32, after: u32, peer: u16) -> Congestion
         requires { Growable mss self }
-        ensures { result ≡ afterDatagram self mss before after peer }
+        ensures { result ≡ after_datagram self mss before after peer }
     {
         if before == after {
             self
@@ -194,7 +194,7 @@ impl Congestion {
     // At the end of a flush: loss by skips, then by timeout, which leaves nothing of the former; then a window under 1 becomes 1.
     pub fn after_flush(self, mss: u32, losses: Losses) -> Congestion
         requires { Countable mss losses }
-        ensures { result ≡ afterFlush self mss losses }
+        ensures { result ≡ after_flush self mss losses }
     {
         if losses.late {
             return at_least_one(by_timeout(losses, mss), mss);

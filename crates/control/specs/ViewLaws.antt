@@ -8,12 +8,12 @@ use Rattle.control.specs.declared.Arrival.{Arrival}
 use Rattle.control.specs.Views.{pairs, counted}
 
 -- no more pairs than are asked for
-pub pairs-most : (n : ℕ) (l : List ℕ) → length (pairs n l) ≤ n
+pub pairs_most : (n : ℕ) (l : List ℕ) → length (pairs n l) ≤ n
 unfolding pairs
-pairs-most zero l = zero-le
-pairs-most (suc n) [] = zero-le
-pairs-most (suc n) (a ∷ []) = zero-le
-pairs-most (suc n) (a ∷ b ∷ l) = omega (arith, pairs-most n l)
+pairs_most zero l = zero-le
+pairs_most (suc n) [] = zero-le
+pairs_most (suc n) (a ∷ []) = zero-le
+pairs_most (suc n) (a ∷ b ∷ l) = omega (arith, pairs_most n l)
 
 -- what the counts' test says
 pub record Counts (f : Flight) (a : Arrival) : Type 0 where

@@ -4,9 +4,9 @@ use Rattle.std.specs.Prelude.{◌≡◌, refl, Bool, true, false, List, ℕ, min
 use Rattle.std.proofs.Common.{ap, subst, arith, le-ltb}
 use Rattle.std.specs.Int.Signed.{lt_z}
 use Rattle.protocol.specs.declared.Settings.{Settings}
-use Rattle.codes.specs.Codes.{numberCode}
-use Rattle.settings_file.specs.Files.{number_of, Writes, readFrom}
-use Rattle.settings_file.specs.FileLaws.{SettingsFit, wrote-short, write-then-read}
+use Rattle.codes.specs.Codes.{number_code}
+use Rattle.settings_file.specs.Files.{number_of, Writes, read_from}
+use Rattle.settings_file.specs.FileLaws.{SettingsFit, wrote_short, write_then_read}
 use Rattle.settings_file.specs.declared.FileRefusal.{FileRefusal}
 use Rattle.settings_file.specs.declared.FileRefusal.TheVariants.{
   ShortPart,
@@ -19,40 +19,40 @@ use Rattle.settings_file.specs.declared.Reading.{Reading}
 use Rattle.settings_file.specs.declared.Reading.TheVariants as reading
 use Rattle.settings_file.specs.declared.Writing.{Writing}
 use Rattle.settings_file.specs.declared.Writing.TheVariants as writing
-use Rattle.settings_calls.specs.SettingsFiles.{writingCode, Numbers, numbersOf, Stores}
+use Rattle.settings_calls.specs.SettingsFiles.{writing_code, Numbers, numbers_of, Stores}
 
-abbrev pub isRefusedWriting : Writing → Bool
-isRefusedWriting (writing.Wrote n) = false
-isRefusedWriting (writing.Refused r) = true
+abbrev pub is_refused_writing : Writing → Bool
+is_refused_writing (writing.Wrote n) = false
+is_refused_writing (writing.Refused r) = true
 
-abbrev pub isRefusedReading : Reading → Bool
-isRefusedReading (reading.Settings c) = false
-isRefusedReading (reading.Refused r) = true
+abbrev pub is_refused_reading : Reading → Bool
+is_refused_reading (reading.Settings c) = false
+is_refused_reading (reading.Refused r) = true
 
-refusal-below : (r : FileRefusal) → lt_z (numberCode (number_of r)) (pos 0) ≡ true
-refusal-below ShortPart = refl
-refusal-below SettingOutOfRange = refl
-refusal-below NotSettings = refl
-refusal-below UnknownVersion = refl
-refusal-below NeedlessVersion = refl
+refusal_below : (r : FileRefusal) → lt_z (number_code (number_of r)) (pos 0) ≡ true
+refusal_below ShortPart = refl
+refusal_below SettingOutOfRange = refl
+refusal_below NotSettings = refl
+refusal_below UnknownVersion = refl
+refusal_below NeedlessVersion = refl
 
-pub writing-below : (a : Writing) → lt_z (writingCode a) (pos 0) ≡ isRefusedWriting a
-writing-below (writing.Wrote n) = le-ltb (min n 2147483647) 0 (omega arith)
-writing-below (writing.Refused r) = refusal-below r
+pub writing_below : (a : Writing) → lt_z (writing_code a) (pos 0) ≡ is_refused_writing a
+writing_below (writing.Wrote n) = le-ltb (min n 2147483647) 0 (omega arith)
+writing_below (writing.Refused r) = refusal_below r
 
-pub reading-below : (a : Reading) (r : ℤ) (before after : Numbers) → Stores a r before after → lt_z r (pos 0) ≡ isRefusedReading a
-reading-below (reading.Settings c) r before after h = rw h.0
-reading-below (reading.Refused q) r before after h = rw h.0 (refusal-below q)
+pub reading_below : (a : Reading) (r : ℤ) (before after : Numbers) → Stores a r before after → lt_z r (pos 0) ≡ is_refused_reading a
+reading_below (reading.Settings c) r before after h = rw h.0
+reading_below (reading.Refused q) r before after h = rw h.0 (refusal_below q)
 
 -- the count of a file that was written is told as it is
-pub written-told : (c : Settings) (part part' : List ℕ) (n : ℕ) → Writes c part (writing.Wrote n) part'
-    → writingCode (writing.Wrote n) ≡ pos n
-written-told c part part' n w = ap pos (omega (arith, wrote-short c part part' n w))
+pub written_told : (c : Settings) (part part' : List ℕ) (n : ℕ) → Writes c part (writing.Wrote n) part'
+    → writing_code (writing.Wrote n) ≡ pos n
+written_told c part part' n w = ap pos (omega (arith, wrote_short c part part' n w))
 
 -- the file that was written, read back: 0, and the seven settings
-pub written-stored : (c : Settings) (part part' : List ℕ) (n : ℕ) (r : ℤ) (before after : Numbers) → SettingsFit c
+pub written_stored : (c : Settings) (part part' : List ℕ) (n : ℕ) (r : ℤ) (before after : Numbers) → SettingsFit c
     → Writes c part (writing.Wrote n) part'
-    → Stores (readFrom (take n part')) r before after
-    → (r ≡ pos 0) × (after ≡ numbersOf c)
-written-stored c part part' n r before after fit w h =
-    subst (λ (a : Reading). Stores a r before after) (write-then-read c part part' n fit w) h
+    → Stores (read_from (take n part')) r before after
+    → (r ≡ pos 0) × (after ≡ numbers_of c)
+written_stored c part part' n r before after fit w h =
+    subst (λ (a : Reading). Stores a r before after) (write_then_read c part part' n fit w) h

@@ -15,68 +15,68 @@ use Rattle.answers.specs.declared.Time.{Time}
 use Rattle.answers.specs.declared.Time.TheVariants.{At, Refused}
 use Rattle.promises.specs.Parts.{Parts, FlushParts}
 use Rattle.promises.specs.Outcomes.{updates, checks}
-use Rattle.promises.specs.Answers.{updateAnswer, timeOutcome}
+use Rattle.promises.specs.Answers.{update_answer, time_outcome}
 use Rattle.promises.specs.Promises.{UpdatePromise}
-use Rattle.codes.specs.Codes.{refusalCode, notYet, updateCode, timeCode, timeStored}
+use Rattle.codes.specs.Codes.{refusal_code, not_yet, update_code, time_code, time_stored}
 use Rattle.codes.specs.Gives.{Gives}
-use Rattle.demands.specs.CountLaws.{OfResult, FewDatagrams, updates-few}
+use Rattle.demands.specs.CountLaws.{OfResult, FewDatagrams, updates_few}
 use Rattle.asks.specs.Times.{TimePromise}
 
 -- the refusal's number below zero, the number of an update that does not flush, or the very count of its datagrams
 abbrev pub UpdateTold : Outcome Updates → ℤ → Type 0
-UpdateTold (refused x) r = r ≡ refusalCode x
-UpdateTold (done (waits s)) r = r ≡ notYet
+UpdateTold (refused x) r = r ≡ refusal_code x
+UpdateTold (done (waits s)) r = r ≡ not_yet
 UpdateTold (done (flushes x)) r = r ≡ pos (length x.datagrams)
 
 -- the refusal's number, and what was stored stays; or 0, and the time is stored
 abbrev pub TimeTold : Outcome ℕ → ℕ → ℤ → ℕ → Type 0
-TimeTold (refused x) was r stored = (r ≡ refusalCode x) × (stored ≡ was)
+TimeTold (refused x) was r stored = (r ≡ refusal_code x) × (stored ≡ was)
 TimeTold (done when) was r stored = (r ≡ pos 0) × (stored ≡ when)
 
 -- ---- that number is no count's, and no refusal's
 
-pub no-count : (n : ℕ) → notYet ≡ pos n → ⊥
-no-count n e = false≢true (sym (le-ltb n 0 (omega arith)) ∙ ap (λ (z : ℤ). lt_z z (pos 0)) (sym e))
+pub no_count : (n : ℕ) → not_yet ≡ pos n → ⊥
+no_count n e = false≢true (sym (le-ltb n 0 (omega arith)) ∙ ap (λ (z : ℤ). lt_z z (pos 0)) (sym e))
 
 -- it is below every refusal's
-below-refusal : (x : Refusal) → lt_z notYet (refusalCode x) ≡ true
-below-refusal refusal.ShortDatagram = refl
-below-refusal refusal.OtherConversation = refl
-below-refusal refusal.LengthPastEnd = refl
-below-refusal refusal.UnknownCommand = refl
-below-refusal refusal.LongPayload = refl
-below-refusal refusal.HighFragment = refl
-below-refusal refusal.ShortPart = refl
-below-refusal refusal.NoMessage = refl
-below-refusal refusal.LongMessage = refl
-below-refusal refusal.NoFreeSlots = refl
-below-refusal refusal.SettingOutOfRange = refl
-below-refusal refusal.InvalidBlock = refl
-below-refusal refusal.TrailingBytes = refl
+below_refusal : (x : Refusal) → lt_z not_yet (refusal_code x) ≡ true
+below_refusal refusal.ShortDatagram = refl
+below_refusal refusal.OtherConversation = refl
+below_refusal refusal.LengthPastEnd = refl
+below_refusal refusal.UnknownCommand = refl
+below_refusal refusal.LongPayload = refl
+below_refusal refusal.HighFragment = refl
+below_refusal refusal.ShortPart = refl
+below_refusal refusal.NoMessage = refl
+below_refusal refusal.LongMessage = refl
+below_refusal refusal.NoFreeSlots = refl
+below_refusal refusal.SettingOutOfRange = refl
+below_refusal refusal.InvalidBlock = refl
+below_refusal refusal.TrailingBytes = refl
 
-pub no-refusal : (x : Refusal) → notYet ≡ refusalCode x → ⊥
-no-refusal x e = false≢true (ap (lt_z notYet) e ∙ below-refusal x)
+pub no_refusal : (x : Refusal) → not_yet ≡ refusal_code x → ⊥
+no_refusal x e = false≢true (ap (lt_z not_yet) e ∙ below_refusal x)
 
 -- ---- the calls
 
-update-code : (o : Outcome Updates) → OfResult FewDatagrams o → (a : Update) → a ≡ updateAnswer o → UpdateTold o (updateCode a)
-update-code (refused x) few a e = ap updateCode e
-update-code (done (waits s)) few a e = ap updateCode e
-update-code (done (flushes x)) few a e = ap updateCode e ∙ ap pos (omega (arith, few))
+update_code_lem : (o : Outcome Updates) → OfResult FewDatagrams o → (a : Update) → a ≡ update_answer o → UpdateTold o (update_code a)
+update_code_lem (refused x) few a e = ap update_code e
+update_code_lem (done (waits s)) few a e = ap update_code e
+update_code_lem (done (flushes x)) few a e = ap update_code e ∙ ap pos (omega (arith, few))
 
 module _ (l : Link) (p : Parts) (r : ℤ) where
-  pub update-told : (t : ℕ) (f : FlushParts) (l' : Link) (p' : Parts) (f' : FlushParts)
-      → Gives updateCode (λ (a : Update). UpdatePromise t l p f a l' p' f') r
+  pub update_told : (t : ℕ) (f : FlushParts) (l' : Link) (p' : Parts) (f' : FlushParts)
+      → Gives update_code (λ (a : Update). UpdatePromise t l p f a l' p' f') r
       → UpdateTold (updates l p f t) r
-  update-told t f l' p' f' g =
+  update_told t f l' p' f' g =
       rw g.number
-      (update-code (updates l p f t) (updates-few l p f t) g.answer g.promise.answer)
+      (update_code_lem (updates l p f t) (updates_few l p f t) g.answer g.promise.answer)
 
-  pub check-told : (t was stored : ℕ) → Gives timeCode (λ (a : Time). TimePromise t l p a was stored) r
+  pub check_told : (t was stored : ℕ) → Gives time_code (λ (a : Time). TimePromise t l p a was stored) r
       → TimeTold (checks l p t) was r stored
-  check-told t was stored g = subst (λ (o : Outcome ℕ). TimeTold o was r stored) g.promise.time.answer
+  check_told t was stored g = subst (λ (o : Outcome ℕ). TimeTold o was r stored) g.promise.time.answer
       (rw (g.number, g.promise.when) (go g.answer))
     where
-      go : (a : Time) → TimeTold (timeOutcome a) was (timeCode a) (timeStored a was)
+      go : (a : Time) → TimeTold (time_outcome a) was (time_code a) (time_stored a was)
       go (At when) = (refl, refl)
       go (Refused x) = (refl, refl)

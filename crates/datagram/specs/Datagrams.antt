@@ -2,7 +2,7 @@
 -- Assumes nothing.
 use Rattle.std.specs.Prelude.{Bool, true, cond, ◌&&◌, List, [], ◌∷◌, ℕ, zero, suc, ◌+◌, ◌-◌, leb, eqb, length, take, drop}
 use Rattle.wire.specs.Headers.{decode}
-use Rattle.protocol.specs.Protocol.{push, windowTell, headerSize, fragmentMost}
+use Rattle.protocol.specs.Protocol.{push, window_tell, header_size, fragment_most}
 use Rattle.wire.specs.declared.Header.{Header}
 use Rattle.protocol.specs.declared.Refusal.{Refusal}
 use Rattle.protocol.specs.declared.Refusal.TheVariants.{
@@ -34,33 +34,33 @@ pub record Test : Type 0 where
   pub otherwise : Refusal
 
 -- the tests in turn: the first that fails decides
-abbrev pub firstFailed : List Test → Verdict
-firstFailed [] = Passes
-firstFailed (t ∷ ts) = cond t.holds (firstFailed ts) (Fails t.otherwise)
+abbrev pub first_failed : List Test → Verdict
+first_failed [] = Passes
+first_failed (t ∷ ts) = cond t.holds (first_failed ts) (Fails t.otherwise)
 
 -- what is asked of a push alone
-abbrev pub ofPush : Header → Bool → Bool
-ofPush h b = cond (eqb h.cmd push) b true
+abbrev pub of_push : Header → Bool → Bool
+of_push h b = cond (eqb h.cmd push) b true
 
 -- the tests of a header that has room bytes behind it, by a link of this conversation and mss
 unfoldable pub verdict : ℕ → ℕ → ℕ → Header → Verdict
 verdict conv mss room h =
-    firstFailed
+    first_failed
     -- 2: another conversation
     (record { holds = eqb h.conv conv; otherwise = OtherConversation }
     -- 3: len runs past the datagram's end
     ∷ record { holds = leb h.len room; otherwise = LengthPastEnd }
     -- 4: command not 81 to 84
-    ∷ record { holds = leb push h.cmd && leb h.cmd windowTell; otherwise = UnknownCommand }
+    ∷ record { holds = leb push h.cmd && leb h.cmd window_tell; otherwise = UnknownCommand }
     -- 5: push payload above mss
-    ∷ record { holds = ofPush h (leb h.len mss); otherwise = LongPayload }
+    ∷ record { holds = of_push h (leb h.len mss); otherwise = LongPayload }
     -- 6: push fragment number above 126
-    ∷ record { holds = ofPush h (leb h.frg fragmentMost); otherwise = HighFragment }
+    ∷ record { holds = of_push h (leb h.frg fragment_most); otherwise = HighFragment }
     ∷ [])
 
 -- the segment that s begins with
-unfoldable pub segmentOf : List ℕ → Segment
-segmentOf s = record { header = decode s 0; payload = take (decode s 0).len (drop headerSize s) }
+unfoldable pub segment_of : List ℕ → Segment
+segment_of s = record { header = decode s 0; payload = take (decode s 0).len (drop header_size s) }
 
 -- ---- a datagram
 
@@ -69,33 +69,33 @@ pub data Parsed : Type 0 where
   segments : List Segment → Parsed
 
 -- a segment with its verdict, in front of what the rest is: the first bad segment decides
-abbrev pub inFront : Verdict → Segment → Parsed → Parsed
-inFront Passes g (refused r) = refused r
-inFront Passes g (segments gs) = segments (g ∷ gs)
-inFront (Fails r) g p = refused r
+abbrev pub in_front : Verdict → Segment → Parsed → Parsed
+in_front Passes g (refused r) = refused r
+in_front Passes g (segments gs) = segments (g ∷ gs)
+in_front (Fails r) g p = refused r
 
 -- what is left behind the last whole segment, fewer than 24 bytes. 14: there is such a tail. It comes last: a bad segment before it
--- decides (`inFront`)
+-- decides (`in_front`)
 unfoldable pub tail : List ℕ → Parsed
 tail [] = segments []
 tail (b ∷ t) = refused TrailingBytes
 
 module _ (conv mss : ℕ) where
   -- the segments of s behind its first skip bytes. A segment that begins with b has 23 + len bytes more. It goes by bytes, so that it ends;
-  -- WalkLaws `walk_step` and `walk-short` say it segment by segment
+  -- WalkLaws `walk_step` and `walk_short` say it segment by segment
   unfoldable pub walk : ℕ → List ℕ → Parsed
   walk skip [] = tail []
   walk zero (b ∷ s) =
       let h = decode (b ∷ s) 0 in
       let n = length (b ∷ s) in
-      cond (leb headerSize n)
-      (inFront (verdict conv mss (n - headerSize) h) (segmentOf (b ∷ s)) (walk (23 + h.len) s))
+      cond (leb header_size n)
+      (in_front (verdict conv mss (n - header_size) h) (segment_of (b ∷ s)) (walk (23 + h.len) s))
       (tail (b ∷ s))
   walk (suc skip) (b ∷ s) = walk skip s
 
   -- 1: datagram under 24 bytes
   unfoldable pub parse : List ℕ → Parsed
-  parse s = cond (leb headerSize (length s)) (walk 0 s) (refused ShortDatagram)
+  parse s = cond (leb header_size (length s)) (walk 0 s) (refused ShortDatagram)
 
 -- the answer for what a datagram is, with n segments counted before it
 abbrev pub counted : ℕ → Parsed → Checked
@@ -105,9 +105,9 @@ counted n (segments gs) = Accepted (n + length gs)
 -- ---- a position
 
 -- the segment at index i of s, where all of it stands in s
-unfoldable pub stepAt : List ℕ → ℕ → Step
-stepAt s i =
+unfoldable pub step_at : List ℕ → ℕ → Step
+step_at s i =
     let h = decode s i in
-    let start = i + headerSize in
+    let start = i + header_size in
     let next = start + h.len in
     cond (leb start (length s) && leb next (length s)) (step.Segment h start next) step.End

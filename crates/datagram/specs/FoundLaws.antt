@@ -14,24 +14,24 @@ pub record IsWhole (s : List ℕ) (i : ℕ) (h : Header) : Type 0 where
   pub header : h ≡ decode s i
 
 module _ (s : List ℕ) (i : ℕ) where
-  at-whole : i + 24 ≤ length s → header_at s i ≡ Whole (decode s i)
+  at_whole : i + 24 ≤ length s → header_at s i ≡ Whole (decode s i)
   unfolding header_at
-  at-whole h = rw (le-leb _ _ h)
+  at_whole h = rw (le-leb _ _ h)
 
-  at-short : length s < i + 24 → header_at s i ≡ Short
+  at_short : length s < i + 24 → header_at s i ≡ Short
   unfolding header_at
-  at-short h = rw (lt-leb _ _ h)
+  at_short h = rw (lt-leb _ _ h)
 
-  pub found-whole : (h : Header) → header_at s i ≡ Whole h → IsWhole s i h
-  found-whole h e = go (dec_le (i + 24) (length s))
+  pub found_whole : (h : Header) → header_at s i ≡ Whole h → IsWhole s i h
+  found_whole h e = go (dec_le (i + 24) (length s))
     where
       go : Dec (i + 24 ≤ length s) → IsWhole s i h
-      go (yes p) = record { inside = p; header = let q = sym (at-whole p) ∙ e in cc }
-      go (no p) = absurd (let q = sym (at-short (omega arith)) ∙ e in let z : ◌≡◌ {A = ℕ} 0 1 = cc in omega arith)
+      go (yes p) = record { inside = p; header = let q = sym (at_whole p) ∙ e in cc }
+      go (no p) = absurd (let q = sym (at_short (omega arith)) ∙ e in let z : ◌≡◌ {A = ℕ} 0 1 = cc in omega arith)
 
-  pub found-short : header_at s i ≡ Short → length s < i + 24
-  found-short e = go (dec_le (i + 24) (length s))
+  pub found_short : header_at s i ≡ Short → length s < i + 24
+  found_short e = go (dec_le (i + 24) (length s))
     where
       go : Dec (i + 24 ≤ length s) → length s < i + 24
-      go (yes p) = absurd (let q = sym (at-whole p) ∙ e in let z : ◌≡◌ {A = ℕ} 0 1 = cc in omega arith)
+      go (yes p) = absurd (let q = sym (at_whole p) ∙ e in let z : ◌≡◌ {A = ℕ} 0 1 = cc in omega arith)
       go (no p) = omega arith

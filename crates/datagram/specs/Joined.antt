@@ -3,7 +3,7 @@
 use Rattle.std.specs.Prelude.{◌≡◌, List, [], ◌∷◌, ◌++◌, ℕ, length}
 use Rattle.wire.specs.Headers.{encode, FieldsFit}
 use Rattle.datagram.specs.declared.Verdict.TheVariants.{Passes}
-use Rattle.datagram.specs.Datagrams.{Segment, Parsed, verdict, inFront}
+use Rattle.datagram.specs.Datagrams.{Segment, Parsed, verdict, in_front}
 
 -- a segment's bytes
 unfoldable pub bytes : Segment → List ℕ
@@ -25,6 +25,6 @@ AllValid conv mss [] = Unit {0}
 AllValid conv mss (g ∷ gs) = Valid conv mss g × AllValid conv mss gs
 
 -- segments that pass, in front of what the rest is
-abbrev pub allInFront : List Segment → Parsed → Parsed
-allInFront [] p = p
-allInFront (g ∷ gs) p = inFront Passes g (allInFront gs p)
+abbrev pub all_in_front : List Segment → Parsed → Parsed
+all_in_front [] p = p
+all_in_front (g ∷ gs) p = in_front Passes g (all_in_front gs p)

@@ -8,15 +8,15 @@ use borrow.Author.Tests.{le-leb, lt-leb}
 use Rattle.std.proofs.Math.ListN.{length, length-drop}
 use Rattle.std.proofs.Math.Seq.{drop-drop, length-take-le}
 use Rattle.wire.specs.Headers.{decode}
-use Rattle.wire.specs.HeaderLaws.{decode-drop}
+use Rattle.wire.specs.HeaderLaws.{decode_drop}
 use Rattle.wire.specs.declared.Header.{Header}
 use Rattle.protocol.specs.declared.Refusal.{Refusal}
 use Rattle.datagram.specs.declared.Verdict.{Verdict}
 use Rattle.datagram.specs.declared.Verdict.TheVariants.{Passes, Fails}
 use Rattle.datagram.specs.declared.Checked.TheVariants.{Accepted, Refused}
 use Rattle.datagram.specs.declared.Step.TheVariants as step
-use Rattle.datagram.specs.Datagrams.{Segment, verdict, segmentOf, Parsed, refused, segments, inFront, walk, parse, counted, stepAt}
-use Rattle.datagram.specs.WalkLaws.{Passed, passed, tail_none, walk_end, walk_at, parse-long, parse-short}
+use Rattle.datagram.specs.Datagrams.{Segment, verdict, segment_of, Parsed, refused, segments, in_front, walk, parse, counted, step_at}
+use Rattle.datagram.specs.WalkLaws.{Passed, passed, tail_none, walk_end, walk_at, parse_long, parse_short}
 
 -- the segments gs remain at index i of s
 pub record Remaining (conv mss : ℕ) (s : List ℕ) (i : ℕ) (gs : List Segment) : Type 0 where
@@ -32,17 +32,17 @@ pub record Begun (conv mss : ℕ) (s : List ℕ) (n : ℕ) : Type 0 where
   pub count : n ≡ length all
   pub remaining : Remaining conv mss s 0 all
 
-pub was-refused : (n : ℕ) (p : Parsed) (r : Refusal) → counted n p ≡ Refused r → p ≡ refused r
-was-refused n (refused q) r e = cc
-was-refused n (segments gs) r e = absurd (let z : ◌≡◌ {A = ℕ} 0 1 = cc in omega arith)
+pub was_refused : (n : ℕ) (p : Parsed) (r : Refusal) → counted n p ≡ Refused r → p ≡ refused r
+was_refused n (refused q) r e = cc
+was_refused n (segments gs) r e = absurd (let z : ◌≡◌ {A = ℕ} 0 1 = cc in omega arith)
 
 module _ (conv mss : ℕ) (s : List ℕ) where
-  pub parsed-remaining : (gs : List Segment) → parse conv mss s ≡ segments gs → Remaining conv mss s 0 gs
-  parsed-remaining gs e = go (dec_le 24 (length s))
+  pub parsed_remaining : (gs : List Segment) → parse conv mss s ≡ segments gs → Remaining conv mss s 0 gs
+  parsed_remaining gs e = go (dec_le 24 (length s))
     where
       go : Dec (24 ≤ length s) → Remaining conv mss s 0 gs
-      go (yes h) = record { inside = omega arith; walked = sym (parse-long conv mss s h) ∙ e }
-      go (no h) = absurd (let p = sym (parse-short conv mss s (omega arith)) ∙ e in let z : ◌≡◌ {A = ℕ} 0 1 = cc in omega arith)
+      go (yes h) = record { inside = omega arith; walked = sym (parse_long conv mss s h) ∙ e }
+      go (no h) = absurd (let p = sym (parse_short conv mss s (omega arith)) ∙ e in let z : ◌≡◌ {A = ℕ} 0 1 = cc in omega arith)
 
   pub accepted : (n : ℕ) → counted 0 (parse conv mss s) ≡ Accepted n → Begun conv mss s n
   accepted n e = go (parse conv mss s) refl
@@ -52,7 +52,7 @@ module _ (conv mss : ℕ) (s : List ℕ) where
       go (segments gs) q =
           let f = rw q at e in
           let k : n ≡ 0 + length gs = cc in
-          record { all = gs; parsed = q; count = omega arith; remaining = parsed-remaining gs q }
+          record { all = gs; parsed = q; count = omega arith; remaining = parsed_remaining gs q }
 
 -- ---- a step
 
@@ -63,7 +63,7 @@ record Front (v : Verdict) (g : Segment) (p : Parsed) (gs : List Segment) : Type
   whole : gs ≡ g ∷ others
   rest : p ≡ segments others
 
-front : (v : Verdict) (g : Segment) (p : Parsed) (gs : List Segment) → inFront v g p ≡ segments gs → Front v g p gs
+front : (v : Verdict) (g : Segment) (p : Parsed) (gs : List Segment) → in_front v g p ≡ segments gs → Front v g p gs
 front Passes g (refused r) gs e = absurd (let z : ◌≡◌ {A = ℕ} 0 1 = cc in omega arith)
 front Passes g (segments hs) gs e = record { others = hs; passes = refl; whole = cc; rest = refl }
 front (Fails r) g p gs e = absurd (let z : ◌≡◌ {A = ℕ} 0 1 = cc in omega arith)
@@ -83,37 +83,37 @@ module _ (conv mss : ℕ) (s : List ℕ) (i : ℕ) (gs : List Segment) (r : Rema
   short : length s < i + 24 → gs ≡ []
   short h = tail_none (drop i s) gs (sym (walk_end conv mss s i h) ∙ r.walked)
 
-  front_at : i + 24 ≤ length s → Front (verdict conv mss (length s - (i + 24)) (decode s i)) (segmentOf (drop i s))
+  front_at : i + 24 ≤ length s → Front (verdict conv mss (length s - (i + 24)) (decode s i)) (segment_of (drop i s))
       (walk conv mss 0 (drop (i + 24 + (decode s i).len) s)) gs
   front_at h = front _ _ _ gs (sym (walk_at conv mss s i h) ∙ r.walked)
 
   -- where a header stands, all of its segment does
-  step-at : i + 24 ≤ length s → stepAt s i ≡ step.Segment (decode s i) (i + 24) (i + 24 + (decode s i).len)
-  unfolding stepAt
-  step-at h =
+  step_at_lem : i + 24 ≤ length s → step_at s i ≡ step.Segment (decode s i) (i + 24) (i + 24 + (decode s i).len)
+  unfolding step_at
+  step_at_lem h =
       let p = passed _ _ _ _ (front_at h).passes in
       rw (le-leb (i + 24) (length s) h, le-leb (i + 24 + (decode s i).len) (length s) (omega (arith, p.inside)))
 
-  step-short : length s < i + 24 → stepAt s i ≡ step.End
-  unfolding stepAt
-  step-short h = rw (lt-leb (i + 24) (length s) h)
+  step_short : length s < i + 24 → step_at s i ≡ step.End
+  unfolding step_at
+  step_short h = rw (lt-leb (i + 24) (length s) h)
 
-  pub ended : stepAt s i ≡ step.End → gs ≡ []
+  pub ended : step_at s i ≡ step.End → gs ≡ []
   ended e = go (dec_le (i + 24) (length s))
     where
       go : Dec (i + 24 ≤ length s) → gs ≡ []
-      go (yes h) = absurd (let p = sym (step-at h) ∙ e in let z : ◌≡◌ {A = ℕ} 0 1 = cc in omega arith)
+      go (yes h) = absurd (let p = sym (step_at_lem h) ∙ e in let z : ◌≡◌ {A = ℕ} 0 1 = cc in omega arith)
       go (no h) = short (omega arith)
 
   taken : i + 24 ≤ length s → Took conv mss s i gs (decode s i) (i + 24) (i + 24 + (decode s i).len)
-  unfolding segmentOf
+  unfolding segment_of
   taken h =
       let f = front_at h in
       let p = passed _ _ _ _ f.passes in
       let inside : i + 24 + (decode s i).len ≤ length s = omega (arith, p.inside) in
       record {
         others = f.others;
-        whole = rw (decode-drop i s, drop-drop 24 i s) at f.whole;
+        whole = rw (decode_drop i s, drop-drop 24 i s) at f.whole;
         starts = refl;
         follows = refl;
         inside = inside;
@@ -122,13 +122,13 @@ module _ (conv mss : ℕ) (s : List ℕ) (i : ℕ) (gs : List Segment) (r : Rema
         remaining = record { inside = inside; walked = f.rest };
       }
 
-  pub took : (h : Header) (start next : ℕ) → stepAt s i ≡ step.Segment h start next → Took conv mss s i gs h start next
+  pub took : (h : Header) (start next : ℕ) → step_at s i ≡ step.Segment h start next → Took conv mss s i gs h start next
   took h start next e = go (dec_le (i + 24) (length s))
     where
       go : Dec (i + 24 ≤ length s) → Took conv mss s i gs h start next
-      go (no p) = absurd (let q = sym (step-short (omega arith)) ∙ e in let z : ◌≡◌ {A = ℕ} 0 1 = cc in omega arith)
+      go (no p) = absurd (let q = sym (step_short (omega arith)) ∙ e in let z : ◌≡◌ {A = ℕ} 0 1 = cc in omega arith)
       go (yes p) =
-          let q = sym e ∙ step-at p in
+          let q = sym e ∙ step_at_lem p in
           let head : h ≡ decode s i = cc in
           let from : start ≡ i + 24 = cc in
           let to : next ≡ i + 24 + (decode s i).len = cc in

@@ -8,8 +8,8 @@ use Prim.Native.Nat.{ℕ, zero, suc, ◌+◌, ◌-◌, ◌≤◌, ◌<◌}
 use native.Mathlib.Omega.{arith}
 use Rattle.std.proofs.lemmas.Bool.{lt-leb}
 use Rattle.wire.specs.Headers.{decode}
-use Rattle.wire.specs.HeaderLaws.{decode-drop}
-use Rattle.protocol.specs.Protocol.{push, windowTell, fragmentMost}
+use Rattle.wire.specs.HeaderLaws.{decode_drop}
+use Rattle.protocol.specs.Protocol.{push, window_tell, fragment_most}
 use Rattle.wire.specs.declared.Header.{Header}
 use Rattle.protocol.specs.declared.Refusal.{Refusal}
 use Rattle.protocol.specs.declared.Refusal.TheVariants.{ShortDatagram, TrailingBytes}
@@ -18,13 +18,13 @@ use Rattle.datagram.specs.declared.Verdict.TheVariants.{Passes, Fails}
 use Rattle.datagram.specs.declared.Checked.TheVariants.{Accepted}
 use Rattle.datagram.specs.Datagrams.{
   Segment,
-  ofPush,
+  of_push,
   verdict,
-  segmentOf,
+  segment_of,
   Parsed,
   refused,
   segments,
-  inFront,
+  in_front,
   tail,
   walk,
   parse,
@@ -34,16 +34,16 @@ use Rattle.datagram.specs.Datagrams.{
 -- ---- a tail
 
 -- nothing is left
-pub tail-empty : (t : List ℕ) → length t ≡ 0 → tail t ≡ segments []
+pub tail_empty : (t : List ℕ) → length t ≡ 0 → tail t ≡ segments []
 unfolding tail
-tail-empty [] h = refl
-tail-empty (b ∷ t) h = absurd (omega arith)
+tail_empty [] h = refl
+tail_empty (b ∷ t) h = absurd (omega arith)
 
 -- something is left
-pub tail-junk : (t : List ℕ) → 0 < length t → tail t ≡ refused TrailingBytes
+pub tail_junk : (t : List ℕ) → 0 < length t → tail t ≡ refused TrailingBytes
 unfolding tail
-tail-junk [] h = absurd (omega arith)
-tail-junk (b ∷ t) h = refl
+tail_junk [] h = absurd (omega arith)
+tail_junk (b ∷ t) h = refl
 
 -- where a datagram is accepted, nothing is left behind its segments
 pub tail_none : (t : List ℕ) (gs : List Segment) → tail t ≡ segments gs → gs ≡ []
@@ -57,10 +57,10 @@ tail_none (b ∷ t) gs e = absurd (let z : ◌≡◌ {A = ℕ} 0 1 = cc in omega
 pub record Passed (conv mss room : ℕ) (h : Header) : Type 0 where
   pub conversation : h.conv ≡ conv
   pub inside : h.len ≤ room
-  pub command-least : push ≤ h.cmd
-  pub command-most : h.cmd ≤ windowTell
+  pub command_least : push ≤ h.cmd
+  pub command_most : h.cmd ≤ window_tell
   pub payload : h.cmd ≡ push → h.len ≤ mss
-  pub fragment : h.cmd ≡ push → h.frg ≤ fragmentMost
+  pub fragment : h.cmd ≡ push → h.frg ≤ fragment_most
 
 -- a test whose refusal is not given holds
 holds : (b : Bool) (v : Verdict) (r : Refusal) → cond b v (Fails r) ≡ Passes → (b ≡ true) × (v ≡ Passes)
@@ -71,8 +71,8 @@ both : (a b : Bool) → (a && b) ≡ true → (a ≡ true) × (b ≡ true)
 both true b e = (refl, e)
 both false b e = absurd (let z : ◌≡◌ {A = ℕ} 0 1 = cc in omega arith)
 
-of-push : (h : Header) (b : Bool) → h.cmd ≡ push → ofPush h b ≡ true → b ≡ true
-of-push h b p e = rw (eq-eqb h.cmd push p) at e
+of_push_lem : (h : Header) (b : Bool) → h.cmd ≡ push → of_push h b ≡ true → b ≡ true
+of_push_lem h b p e = rw (eq-eqb h.cmd push p) at e
 
 pub passed : (conv mss room : ℕ) (h : Header) → verdict conv mss room h ≡ Passes → Passed conv mss room h
 unfolding verdict
@@ -86,57 +86,57 @@ passed conv mss room h e =
     record {
       conversation = eqb-true _ _ a.0;
       inside = leb-true _ _ b.0;
-      command-least = leb-true _ _ k.0;
-      command-most = leb-true _ _ k.1;
-      payload = λ p. leb-true _ _ (of-push h _ p f.0);
-      fragment = λ p. leb-true _ _ (of-push h _ p g.0);
+      command_least = leb-true _ _ k.0;
+      command_most = leb-true _ _ k.1;
+      payload = λ p. leb-true _ _ (of_push_lem h _ p f.0);
+      fragment = λ p. leb-true _ _ (of_push_lem h _ p g.0);
     }
 
 -- ---- the walk
 
 -- a segment in front is one more
-pub counted-front : (n : ℕ) (g : Segment) (p : Parsed) → counted n (inFront Passes g p) ≡ counted (n + 1) p
-counted-front n g (refused r) = refl
-counted-front n g (segments gs) = ap Accepted (omega arith)
+pub counted_front : (n : ℕ) (g : Segment) (p : Parsed) → counted n (in_front Passes g p) ≡ counted (n + 1) p
+counted_front n g (refused r) = refl
+counted_front n g (segments gs) = ap Accepted (omega arith)
 
 module _ (conv mss : ℕ) where
   -- bytes to skip are bytes dropped
-  pub walk-skip : (k : ℕ) (s : List ℕ) → walk conv mss k s ≡ walk conv mss 0 (drop k s)
+  pub walk_skip : (k : ℕ) (s : List ℕ) → walk conv mss k s ≡ walk conv mss 0 (drop k s)
   unfolding walk
-  walk-skip zero s = refl
-  walk-skip (suc k) [] = refl
-  walk-skip (suc k) (b ∷ s) = walk-skip k s
+  walk_skip zero s = refl
+  walk_skip (suc k) [] = refl
+  walk_skip (suc k) (b ∷ s) = walk_skip k s
 
-  pub walk-short : (s : List ℕ) → length s < 24 → walk conv mss 0 s ≡ tail s
+  pub walk_short : (s : List ℕ) → length s < 24 → walk conv mss 0 s ≡ tail s
   unfolding walk
-  walk-short [] h = refl
-  walk-short (b ∷ s) h = rw (lt-leb _ _ h)
+  walk_short [] h = refl
+  walk_short (b ∷ s) h = rw (lt-leb _ _ h)
 
   pub walk_step : (s : List ℕ) → 24 ≤ length s →
       walk conv mss 0 s
-      ≡ inFront (verdict conv mss (length s - 24) (decode s 0)) (segmentOf s) (walk conv mss 0 (drop (24 + (decode s 0).len) s))
+      ≡ in_front (verdict conv mss (length s - 24) (decode s 0)) (segment_of s) (walk conv mss 0 (drop (24 + (decode s 0).len) s))
   unfolding walk
   walk_step [] h = absurd (omega arith)
   walk_step (b ∷ s) h =
       let e : 24 + (decode (b ∷ s) 0).len ≡ suc (23 + (decode (b ∷ s) 0).len) = omega arith in
-      rw (le-leb _ _ h, e, walk-skip (23 + (decode (b ∷ s) 0).len) s)
+      rw (le-leb _ _ h, e, walk_skip (23 + (decode (b ∷ s) 0).len) s)
 
   -- the same two at an index of the whole
   pub walk_end : (s : List ℕ) (i : ℕ) → length s < i + 24 → walk conv mss 0 (drop i s) ≡ tail (drop i s)
-  walk_end s i h = walk-short (drop i s) (rw length-drop (omega arith))
+  walk_end s i h = walk_short (drop i s) (rw length-drop (omega arith))
 
   pub walk_at : (s : List ℕ) (i : ℕ) → i + 24 ≤ length s →
       walk conv mss 0 (drop i s)
-      ≡ inFront (verdict conv mss (length s - (i + 24)) (decode s i)) (segmentOf (drop i s))
+      ≡ in_front (verdict conv mss (length s - (i + 24)) (decode s i)) (segment_of (drop i s))
       (walk conv mss 0 (drop (i + 24 + (decode s i).len) s))
   walk_at s i h =
       let room : length s - i - 24 ≡ length s - (i + 24) = omega arith in
-      rw (walk_step (drop i s) (rw length-drop (omega arith)), length-drop, decode-drop, room, drop-drop, ← add_assoc)
+      rw (walk_step (drop i s) (rw length-drop (omega arith)), length-drop, decode_drop, room, drop-drop, ← add_assoc)
 
-  pub parse-long : (s : List ℕ) → 24 ≤ length s → parse conv mss s ≡ walk conv mss 0 s
+  pub parse_long : (s : List ℕ) → 24 ≤ length s → parse conv mss s ≡ walk conv mss 0 s
   unfolding parse
-  parse-long s h = rw (le-leb _ _ h)
+  parse_long s h = rw (le-leb _ _ h)
 
-  pub parse-short : (s : List ℕ) → length s < 24 → parse conv mss s ≡ refused ShortDatagram
+  pub parse_short : (s : List ℕ) → length s < 24 → parse conv mss s ≡ refused ShortDatagram
   unfolding parse
-  parse-short s h = rw (lt-leb _ _ h)
+  parse_short s h = rw (lt-leb _ _ h)

@@ -1,6 +1,6 @@
 // The walk over a datagram: its check, and its segments one by one.
 ghost use Rattle.std.specs.Prelude.{◌≡◌};
-ghost use Rattle.datagram.specs.Datagrams.{verdict, parse, counted, stepAt};
+ghost use Rattle.datagram.specs.Datagrams.{verdict, parse, counted, step_at};
 
 use protocol::{Protocol, Refusal};
 use wire::{Found, Header};
@@ -88,7 +88,7 @@ pub fn check(s: &[u8], conv: u32, mss: usize) -> Checked
 
 // The segment at `at`. From 0 on, and then at each `next`, these are the segments of a datagram that `check` accepts.
 pub fn segment_at(s: &[u8], at: usize) -> Step
-    ensures { result ≡ stepAt s.now at }
+    ensures { result ≡ step_at s.now at }
 {
     let found = wire::codec::find_header(s, at);
     let Found::Whole(header) = found else {

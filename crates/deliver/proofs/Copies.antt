@@ -7,42 +7,42 @@ use native.Mathlib.Nat.{mul-le-mul_right}
 use native.Mathlib.Omega.{arith}
 use lib.ListN.{length, take, drop, get_or, length-drop, length-append}
 use lib.Seq.{sets, length-sets, length-take-le}
-use Rattle.wire.specs.Stores.{sets-append}
+use Rattle.wire.specs.Stores.{sets_append}
 use Rattle.lists.specs.declared.Held.{Held}
 use Rattle.pools.specs.Parts.{part}
 use Rattle.session.specs.Decides.{All}
-use Rattle.session.specs.Reading.{length_of, joinedIn}
+use Rattle.session.specs.Reading.{length_of, joined_in}
 use Rattle.words.specs.Words.{unpack}
 use Rattle.deliver.specs.Messages.{InPool}
-use Rattle.deliver.proofs.Fronts.{rest, rest-next, rest_end}
+use Rattle.deliver.proofs.Fronts.{rest, rest_next, rest_end}
 
 -- ---- the total length
 
 -- so far it is sum
 module _ (ws : List ℕ) (k i total sum : ℕ) (inv : total ≡ sum + length_of (rest ws k i)) where
-  pub total-more : (len : ℕ) → i < k → k ≤ length ws → len ≡ (unpack (get_or ws i 0)).len → total ≡ sum + len + length_of (rest ws k (i + 1))
+  pub total_more : (len : ℕ) → i < k → k ≤ length ws → len ≡ (unpack (get_or ws i 0)).len → total ≡ sum + len + length_of (rest ws k (i + 1))
   unfolding length_of
-  total-more len h g e = inv ∙ rw (rest-next ws k i h g, ← e) (omega arith)
+  total_more len h g e = inv ∙ rw (rest_next ws k i h g, ← e) (omega arith)
 
-  pub total-end : k ≤ i → total ≡ sum
+  pub total_end : k ≤ i → total ≡ sum
   unfolding length_of
-  total-end h = inv ∙ rw (rest_end ws k i h) (omega arith)
+  total_end h = inv ∙ rw (rest_end ws k i h) (omega arith)
 
 -- ---- the payloads
 
 -- a payload fits its slot
-pub in-slot : (mss s len size : ℕ) → s < 256 → len ≤ mss → 256 * mss ≤ size → s * mss + len ≤ size
-in-slot mss s len size h g b = omega (arith, mul-le-mul_right {m = s + 1} {n = 256} mss (omega arith))
+pub in_slot : (mss s len size : ℕ) → s < 256 → len ≤ mss → 256 * mss ≤ size → s * mss + len ≤ size
+in_slot mss s len size h g b = omega (arith, mul-le-mul_right {m = s + 1} {n = 256} mss (omega arith))
 
 -- payloads are stored up to index at; with those of the rest, that is goal
 pub record Copying (mss : ℕ) (pool : List ℕ) (left : List Held) (goal out : List ℕ) (at : ℕ) : Type 0 where
   pub inside : InPool mss pool left
   pub fits : at + length_of left ≤ length out
-  pub whole : sets out at (joinedIn mss pool left) ≡ goal
+  pub whole : sets out at (joined_in mss pool left) ≡ goal
 
-pub copying-start : (mss : ℕ) (pool : List ℕ) (l : List Held) (out : List ℕ) → InPool mss pool l → length_of l ≤ length out
-    → Copying mss pool l (sets out 0 (joinedIn mss pool l)) out 0
-copying-start mss pool l out i h = record { inside = i; fits = omega arith; whole = refl }
+pub copying_start : (mss : ℕ) (pool : List ℕ) (l : List Held) (out : List ℕ) → InPool mss pool l → length_of l ≤ length out
+    → Copying mss pool l (sets out 0 (joined_in mss pool l)) out 0
+copying_start mss pool l out i h = record { inside = i; fits = omega arith; whole = refl }
 
 -- a segment in front of the rest lies in its slot, and there is room for it
 pub record Next (mss : ℕ) (pool : List ℕ) (out : List ℕ) (at slot len : ℕ) : Type 0 where
@@ -52,47 +52,47 @@ pub record Next (mss : ℕ) (pool : List ℕ) (out : List ℕ) (at slot len : �
 
 module _ (mss : ℕ) (pool : List ℕ) (h : Held) (left : List Held) (goal out : List ℕ) (at : ℕ) (c : Copying mss pool (h ∷ left) goal out at)
   where
-    copying-next : Next mss pool out at h.slot h.len
+    copying_next : Next mss pool out at h.slot h.len
     unfolding length_of
-    copying-next = record {
+    copying_next = record {
       low = c.inside.each.slots.0;
-      from = in-slot mss h.slot h.len (length pool) c.inside.each.slots.0 c.inside.each.lengths.0 c.inside.whole;
+      from = in_slot mss h.slot h.len (length pool) c.inside.each.slots.0 c.inside.each.lengths.0 c.inside.whole;
       to = omega (arith, c.fits);
     }
 
     -- the segment's payload is stored
-    copying-put : Copying mss pool left goal (sets out at (part pool (h.slot * mss) h.len)) (at + h.len)
-    unfolding length_of joinedIn
-    copying-put =
+    copying_put : Copying mss pool left goal (sets out at (part pool (h.slot * mss) h.len)) (at + h.len)
+    unfolding length_of joined_in
+    copying_put =
         let long : length (part pool (h.slot * mss) h.len) ≡ h.len =
-        length-take-le h.len (drop (h.slot * mss) pool) (rw length-drop (omega (arith, copying-next.from))) in
+        length-take-le h.len (drop (h.slot * mss) pool) (rw length-drop (omega (arith, copying_next.from))) in
         record {
           inside = record {
             each = record { lengths = c.inside.each.lengths.1; slots = c.inside.each.slots.1 };
             whole = c.inside.whole;
           };
           fits = rw length-sets (omega (arith, c.fits));
-          whole = rw (sets-append, long) at c.whole;
+          whole = rw (sets_append, long) at c.whole;
         }
 
 -- the loop stands at index i
 module _ (mss : ℕ) (pool ws : List ℕ) (k i : ℕ) (goal out : List ℕ) (at : ℕ) (c : Copying mss pool (rest ws k i) goal out at) where
   module _ (slot len : ℕ) (h : i < k) (g : k ≤ length ws) (e : slot ≡ (unpack (get_or ws i 0)).slot) (f : len ≡ (unpack (get_or ws i 0)).len)
     where
-      pub copying-at : Next mss pool out at slot len
-      copying-at = rw (e, f) (copying-next mss pool (unpack (get_or ws i 0)) (rest ws k (i + 1)) goal out at (rw (rest-next ws k i h g) at c))
+      pub copying_at : Next mss pool out at slot len
+      copying_at = rw (e, f) (copying_next mss pool (unpack (get_or ws i 0)) (rest ws k (i + 1)) goal out at (rw (rest_next ws k i h g) at c))
 
-      pub copying-more : (out' : List ℕ) → out' ≡ sets out at (part pool (slot * mss) len)
+      pub copying_more : (out' : List ℕ) → out' ≡ sets out at (part pool (slot * mss) len)
           → Copying mss pool (rest ws k (i + 1)) goal out' (at + len)
-      copying-more out' q = rw (
+      copying_more out' q = rw (
         q,
         e,
         f,
-      ) (copying-put mss pool (unpack (get_or ws i 0)) (rest ws k (i + 1)) goal out at (rw (rest-next ws k i h g) at c))
+      ) (copying_put mss pool (unpack (get_or ws i 0)) (rest ws k (i + 1)) goal out at (rw (rest_next ws k i h g) at c))
 
-  pub copying-end : k ≤ i → out ≡ goal
-  unfolding joinedIn
-  copying-end h = rw (rest_end ws k i h) at c.whole
+  pub copying_end : k ≤ i → out ≡ goal
+  unfolding joined_in
+  copying_end h = rw (rest_end ws k i h) at c.whole
 
 -- ---- the message's segments are among those ready
 
@@ -101,8 +101,8 @@ all_take P zero l a = tt
 all_take P (suc k) [] a = tt
 all_take P (suc k) (x ∷ l) a = (a.0, all_take P k l a.1)
 
-pub in-pool-take : (mss : ℕ) (pool : List ℕ) (k : ℕ) (l : List Held) → InPool mss pool l → InPool mss pool (take k l)
-in-pool-take mss pool k l i = record {
+pub in_pool_take : (mss : ℕ) (pool : List ℕ) (k : ℕ) (l : List Held) → InPool mss pool l → InPool mss pool (take k l)
+in_pool_take mss pool k l i = record {
   each = record {
     lengths = all_take (λ (h : Held). h.len ≤ mss) k l i.each.lengths;
     slots = all_take (λ (h : Held). h.slot < 256) k l i.each.slots;
@@ -111,8 +111,8 @@ in-pool-take mss pool k l i = record {
 }
 
 -- the message is as long as its segments together
-pub joined_length : (mss : ℕ) (pool : List ℕ) (l : List Held) → InPool mss pool l → length (joinedIn mss pool l) ≡ length_of l
-unfolding joinedIn length_of
+pub joined_length : (mss : ℕ) (pool : List ℕ) (l : List Held) → InPool mss pool l → length (joined_in mss pool l) ≡ length_of l
+unfolding joined_in length_of
 joined_length mss pool [] i = refl
 joined_length mss pool (h ∷ l) i =
     let left : InPool mss pool l = record {
@@ -123,7 +123,7 @@ joined_length mss pool (h ∷ l) i =
     length-take-le h.len (drop (h.slot * mss) pool)
     (rw length-drop (omega (
       arith,
-      in-slot mss h.slot h.len (length pool) i.each.slots.0 i.each.lengths.0
+      in_slot mss h.slot h.len (length pool) i.each.slots.0 i.each.lengths.0
           i.whole,
     ))) in
     rw (length-append, first, joined_length mss pool l left)

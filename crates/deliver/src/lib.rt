@@ -2,11 +2,11 @@
 // reading it out.
 ghost use Rattle.std.specs.Prelude.{◌≡◌, ◌+◌, ◌≤◌, ◌<◌, length};
 ghost use Rattle.std.proofs.lemmas.List.Edits.{sets};
-ghost use Rattle.session.specs.Reading.{frontCount, readable, length_of, joinedIn};
-ghost use Rattle.words.specs.Words.{unpack, heldIn};
-ghost use Rattle.promises.specs.Answers.{countOutcome, size_of};
+ghost use Rattle.session.specs.Reading.{front_count, readable, length_of, joined_in};
+ghost use Rattle.words.specs.Words.{unpack, held_in};
+ghost use Rattle.promises.specs.Answers.{count_outcome, size_of};
 ghost use Rattle.arriving.specs.Arrivals.{WholeLists, Fits};
-ghost use Rattle.deliver.specs.Messages.{InPool, fittingOf, FitsIn, Taken};
+ghost use Rattle.deliver.specs.Messages.{InPool, fitting_of, FitsIn, Taken};
 
 use answers::Count;
 use control::Arrival;
@@ -36,7 +36,7 @@ fn one_more(word: u32) -> usize
 // The segments of the message at the front: the front segment's fragment number plus 1; 0 where none is ready.
 fn front_count(ready: &[u32; 128], n: usize) -> usize
     requires { (length ready.now ≡ 128) × (n ≤ 128) }
-    ensures { result ≡ frontCount (heldIn ready.now n) }
+    ensures { result ≡ front_count (held_in ready.now n) }
 {
     if 0 < n { one_more(ready[0]) } else { 0 }
 }
@@ -44,7 +44,7 @@ fn front_count(ready: &[u32; 128], n: usize) -> usize
 // Whether a message can be read.
 pub fn readable(ready: &[u32; 128], n: usize) -> bool
     requires { (length ready.now ≡ 128) × (n ≤ 128) }
-    ensures { result ≡ readable (heldIn ready.now n) }
+    ensures { result ≡ readable (held_in ready.now n) }
 {
     let k = front_count(ready, n);
     (0 < k) & (k <= n)
@@ -53,7 +53,7 @@ pub fn readable(ready: &[u32; 128], n: usize) -> bool
 // The length of the first k segments.
 fn total(ready: &[u32; 128], k: usize) -> usize
     requires { (length ready.now ≡ 128) × (k ≤ 128) }
-    ensures { result ≡ length_of (heldIn ready.now k) }
+    ensures { result ≡ length_of (held_in ready.now k) }
 {
     let mut sum: usize = 0;
     let mut i: usize = 0;
@@ -66,9 +66,9 @@ fn total(ready: &[u32; 128], k: usize) -> usize
 
 // The payloads of the first k segments are stored in `out`, one behind the other.
 fn copy_first(pool: &[u8], mss: usize, ready: &[u32; 128], k: usize, out: &mut [u8])
-    requires { (length ready.now ≡ 128) × (k ≤ 128) × InPool mss pool.now (heldIn ready.now k)
-        × (length_of (heldIn ready.now k) ≤ length out.old) }
-    ensures { out.new ≡ sets out.old 0 (joinedIn mss pool.now (heldIn ready.now k)) }
+    requires { (length ready.now ≡ 128) × (k ≤ 128) × InPool mss pool.now (held_in ready.now k)
+        × (length_of (held_in ready.now k) ≤ length out.old) }
+    ensures { out.new ≡ sets out.old 0 (joined_in mss pool.now (held_in ready.now k)) }
 {
     let mut at: usize = 0;
     let mut i: usize = 0;
@@ -85,7 +85,7 @@ fn copy_first(pool: &[u8], mss: usize, ready: &[u32; 128], k: usize, out: &mut [
 // The length of the message at the front; 9 where none can be read.
 pub fn front_size(ready: &[u32; 128], n: usize) -> Count
     requires { (length ready.now ≡ 128) × (n ≤ 128) }
-    ensures { countOutcome result ≡ size_of (heldIn ready.now n) }
+    ensures { count_outcome result ≡ size_of (held_in ready.now n) }
 {
     let k = front_count(ready, n);
     if (0 < k) & (k <= n) {
@@ -97,7 +97,7 @@ pub fn front_size(ready: &[u32; 128], n: usize) -> Count
 // The same, and 7 where it is longer than the room.
 pub fn fitting(ready: &[u32; 128], n: usize, room: usize) -> Count
     requires { (length ready.now ≡ 128) × (n ≤ 128) }
-    ensures { countOutcome result ≡ fittingOf (heldIn ready.now n) room }
+    ensures { count_outcome result ≡ fitting_of (held_in ready.now n) room }
 {
     let front = front_size(ready, n);
     match front {
@@ -124,8 +124,8 @@ pub fn take(
     out: &mut [u8],
 ) -> Arrival
     requires { WholeLists ready.old waiting.old numbers.old × Fits arrival
-        × InPool mss pool.now (heldIn ready.old arrival.ready)
-        × FitsIn (heldIn ready.old arrival.ready) (length out.old) }
+        × InPool mss pool.now (held_in ready.old arrival.ready)
+        × FitsIn (held_in ready.old arrival.ready) (length out.old) }
     ensures { Taken arrival mss ready.old waiting.old numbers.old
         pool.now out.old
         result ready.new waiting.new numbers.new out.new }

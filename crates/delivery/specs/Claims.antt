@@ -3,7 +3,7 @@
 use Rattle.std.specs.Prelude.{◌≡◌, ◌↔◌, ◌⊎◌, List, [], ◌∷◌, ◌++◌, map, ℕ, ◌+◌, ◌≤◌, ◌<◌, length}
 use Rattle.std.proofs.Math.Option.{Option, none, some}
 use Rattle.std.proofs.Math.ListN.{get_elem?}
-use Rattle.protocol.specs.Protocol.{receiveWindow}
+use Rattle.protocol.specs.Protocol.{receive_window}
 use Rattle.protocol.specs.Ranges.{mss}
 use Rattle.protocol.specs.declared.Settings.{Settings}
 use Rattle.protocol.specs.declared.Refusal.{Refusal}
@@ -22,19 +22,19 @@ use Rattle.protocol.specs.declared.Refusal.TheVariants.{
   InvalidBlock,
   TrailingBytes,
 }
-use Rattle.session.specs.Cutting.{fragmentCount}
-use Rattle.session.specs.Calls.{Call, Reply, Event, readAnswers, messagesRead}
+use Rattle.session.specs.Cutting.{fragment_count}
+use Rattle.session.specs.Calls.{Call, Reply, Event, read_answers, messages_read}
 use Rattle.delivery.specs.PlainReceiver.{
   Plain,
-  atFirst,
+  at_first,
   Found,
-  pushesIn,
-  firstWanted,
-  nextExpected,
+  pushes_in,
+  first_wanted,
+  next_expected,
   hear,
   after_call,
-  plainAfter,
-  plainAnswers,
+  plain_after,
+  plain_answers,
 }
 
 -- the answer of a real read, as the plain receiver's: 9 is nothing found, 7 is a buffer that is too short. Any other
@@ -43,23 +43,23 @@ pub data Seen : Type 0 where
   found : Found → Seen
   other : Seen
 
-abbrev pub seenRefusal : Refusal → Seen
-seenRefusal NoMessage = found Found.nothing
-seenRefusal ShortPart = found Found.short
-seenRefusal ShortDatagram = other
-seenRefusal OtherConversation = other
-seenRefusal LengthPastEnd = other
-seenRefusal UnknownCommand = other
-seenRefusal LongPayload = other
-seenRefusal HighFragment = other
-seenRefusal LongMessage = other
-seenRefusal NoFreeSlots = other
-seenRefusal SettingOutOfRange = other
-seenRefusal InvalidBlock = other
-seenRefusal TrailingBytes = other
+abbrev pub seen_refusal : Refusal → Seen
+seen_refusal NoMessage = found Found.nothing
+seen_refusal ShortPart = found Found.short
+seen_refusal ShortDatagram = other
+seen_refusal OtherConversation = other
+seen_refusal LengthPastEnd = other
+seen_refusal UnknownCommand = other
+seen_refusal LongPayload = other
+seen_refusal HighFragment = other
+seen_refusal LongMessage = other
+seen_refusal NoFreeSlots = other
+seen_refusal SettingOutOfRange = other
+seen_refusal InvalidBlock = other
+seen_refusal TrailingBytes = other
 
 abbrev pub seen : Reply → Seen
-seen (Reply.refused r) = seenRefusal r
+seen (Reply.refused r) = seen_refusal r
 seen (Reply.message m) = found (Found.message m)
 seen Reply.accepted = other
 seen (Reply.wrote ds) = other
@@ -77,12 +77,12 @@ module _ (c : Settings) (accepted : List (List ℕ)) (n : ℕ) where
   -- n is one of these numbers, fed in turn, and below the next expected number plus 128 when it comes
   unfoldable pub FedIn : Plain → List ℕ → Type 0
   FedIn p [] = ⊥
-  FedIn p (sn ∷ sns) = ((sn ≡ n) × (n < nextExpected c accepted p + receiveWindow)) ⊎ FedIn (hear c accepted p sn) sns
+  FedIn p (sn ∷ sns) = ((sn ≡ n) × (n < next_expected c accepted p + receive_window)) ⊎ FedIn (hear c accepted p sn) sns
 
   -- one of these calls feeds n while it is below the next expected number plus 128
   unfoldable pub FedBelow : Plain → List Call → Type 0
   FedBelow p [] = ⊥
-  FedBelow p (Call.takeIn d ∷ xs) = FedIn p (pushesIn c d) ⊎ FedBelow (after_call c accepted p (Call.takeIn d)) xs
+  FedBelow p (Call.take_in d ∷ xs) = FedIn p (pushes_in c d) ⊎ FedBelow (after_call c accepted p (Call.take_in d)) xs
   FedBelow p (Call.read room ∷ xs) = FedBelow (after_call c accepted p (Call.read room)) xs
   FedBelow p (Call.send m ∷ xs) = FedBelow p xs
   FedBelow p (Call.flush t ∷ xs) = FedBelow p xs
@@ -93,12 +93,12 @@ module _ (c : Settings) (accepted : List (List ℕ)) (n : ℕ) where
 abbrev pub MissingFrom : Settings → List (List ℕ) → List Call → Option (List ℕ) → Type 0
 MissingFrom c accepted calls none = Unit {0}
 MissingFrom c accepted calls (some m) =
-    let first = firstWanted c accepted (plainAfter c accepted atFirst calls) in
-    (n : ℕ) × (first ≤ n) × (n < first + fragmentCount (mss c) (length m)) × (FedBelow c accepted n atFirst calls → ⊥)
+    let first = first_wanted c accepted (plain_after c accepted at_first calls) in
+    (n : ℕ) × (first ≤ n) × (n < first + fragment_count (mss c) (length m)) × (FedBelow c accepted n at_first calls → ⊥)
 
 -- no next message was accepted, or a segment of it has never been fed so
 abbrev pub Missing : Settings → List (List ℕ) → List Call → Type 0
-Missing c accepted calls = MissingFrom c accepted calls (get_elem? accepted (plainAfter c accepted atFirst calls).out)
+Missing c accepted calls = MissingFrom c accepted calls (get_elem? accepted (plain_after c accepted at_first calls).out)
 
 -- ---- the claims
 
@@ -113,14 +113,14 @@ pub record Observed : Type 1 where
 -- what holds of one receiver: each read answers as the plain receiver's, its messages begin the accepted list, a read that comes next finds
 -- nothing exactly when a message or a segment of it is missing, and rcv_nxt is the plain receiver's next expected number
 pub record Receives (c : Settings) (accepted : List (List ℕ)) (r : Observed) : Type 0 where
-  pub answers : map seen (readAnswers r.events) ≡ map found (plainAnswers c accepted atFirst r.calls)
-  pub begins : Begins (messagesRead (readAnswers r.events)) accepted
+  pub answers : map seen (read_answers r.events) ≡ map found (plain_answers c accepted at_first r.calls)
+  pub begins : Begins (messages_read (read_answers r.events)) accepted
   pub nothing : (room : ℕ) (a : Reply) → r.NextRead room a → (seen a ≡ found Found.nothing) ↔ Missing c accepted r.calls
-  pub next-expected : r.expected ≡ nextExpected c accepted (plainAfter c accepted atFirst r.calls)
+  pub next_expected_lem : r.expected ≡ next_expected c accepted (plain_after c accepted at_first r.calls)
 
 -- what demand 3 claims of two
 pub record Delivered (c : Settings) (accepted : List (List ℕ)) (first second : Observed) : Type 0 where
-  pub first-receives : Receives c accepted first
-  pub second-receives : Receives c accepted second
+  pub first_receives : Receives c accepted first
+  pub second_receives : Receives c accepted second
   -- the first one's messages begin the second one's list
-  pub none-lost : Begins (messagesRead (readAnswers first.events)) (messagesRead (readAnswers second.events))
+  pub none_lost : Begins (messages_read (read_answers first.events)) (messages_read (read_answers second.events))

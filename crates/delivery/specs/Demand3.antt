@@ -10,36 +10,36 @@
 -- Then (`Delivered`) each read of each answers as the plain receiver's; the first one's messages begin the second one's list, and both
 -- begin the list accepted for sending; and a read finds nothing exactly when no next message was accepted, or a segment of it has never
 -- been fed while below the next expected number plus 128.
--- In stream mode each segment as finally numbered is taken for a message, and these in order are the accepted list (`acceptedFor`).
+-- In stream mode each segment as finally numbered is taken for a message, and these in order are the accepted list (`accepted_for`).
 -- Assumes nothing.
 use Rattle.std.specs.Prelude.{List, ℕ}
 use Rattle.protocol.specs.declared.Settings.{Settings}
-use Rattle.session.specs.Calls.{Station, Call, history, datagramsBy}
+use Rattle.session.specs.Calls.{Station, Call, history, datagrams_by}
 use Rattle.session.specs.Decides.{All}
-use Rattle.delivery.specs.Accepted.{acceptedFor}
+use Rattle.delivery.specs.Accepted.{accepted_for}
 use Rattle.delivery.specs.Hearing.{Taken, CallFits, FewPushes, FedWith, HearsMore}
 use Rattle.delivery.specs.Claims.{Delivered}
 use Rattle.delivery.specs.Stations.{Opened, observed}
-use Rattle.delivery.specs.QueuedBytes.{accepted-genuine}
-use Rattle.delivery.specs.AlwaysValid.{station-always-valid}
-use Rattle.delivery.specs.Receiving.{FedReceiver, fed-genuine, delivered-by-receivers}
+use Rattle.delivery.specs.QueuedBytes.{accepted_genuine}
+use Rattle.delivery.specs.AlwaysValid.{station_always_valid}
+use Rattle.delivery.specs.Receiving.{FedReceiver, fed_genuine, delivered_by_receivers}
 
-pub station-demand-3 : (c : Settings) → Taken c
+pub station_demand_3 : (c : Settings) → Taken c
     → (sender first second : Station) → Opened c sender → Opened c first → Opened c second
     → (calls firsts seconds : List Call) → All CallFits calls → All CallFits firsts → All CallFits seconds
-    → FewPushes c (datagramsBy (history sender calls))
-    → FedWith (datagramsBy (history sender calls)) firsts
-    → FedWith (datagramsBy (history sender calls)) seconds
+    → FewPushes c (datagrams_by (history sender calls))
+    → FedWith (datagrams_by (history sender calls)) firsts
+    → FedWith (datagrams_by (history sender calls)) seconds
     → HearsMore firsts seconds
-    → Delivered c (acceptedFor c (history sender calls)) (observed first firsts) (observed second seconds)
-station-demand-3 c taken sender first second o o₁ o₂ calls firsts seconds fits fits₁ fits₂ few fed₁ fed₂ more =
-    let a = station-always-valid c taken sender o calls fits in
-    let a₁ = station-always-valid c taken first o₁ firsts fits₁ in
-    let a₂ = station-always-valid c taken second o₂ seconds fits₂ in
-    let genuine = accepted-genuine c taken sender o calls fits a.0 few in
-    delivered-by-receivers c taken (acceptedFor c (history sender calls)) first second firsts seconds
-    (record { opens = o₁; fits = fits₁; passes = a₁.0; fed = fed-genuine c _ _ genuine firsts fed₁ })
-    (record { opens = o₂; fits = fits₂; passes = a₂.0; fed = fed-genuine c _ _ genuine seconds fed₂ })
+    → Delivered c (accepted_for c (history sender calls)) (observed first firsts) (observed second seconds)
+station_demand_3 c taken sender first second o o₁ o₂ calls firsts seconds fits fits₁ fits₂ few fed₁ fed₂ more =
+    let a = station_always_valid c taken sender o calls fits in
+    let a₁ = station_always_valid c taken first o₁ firsts fits₁ in
+    let a₂ = station_always_valid c taken second o₂ seconds fits₂ in
+    let genuine = accepted_genuine c taken sender o calls fits a.0 few in
+    delivered_by_receivers c taken (accepted_for c (history sender calls)) first second firsts seconds
+    (record { opens = o₁; fits = fits₁; passes = a₁.0; fed = fed_genuine c _ _ genuine firsts fed₁ })
+    (record { opens = o₂; fits = fits₂; passes = a₂.0; fed = fed_genuine c _ _ genuine seconds fed₂ })
     a₁.1
     a₂.1
     more

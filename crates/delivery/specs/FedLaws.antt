@@ -10,28 +10,28 @@ use Rattle.std.proofs.Math.Option.{Option, none, some}
 use Rattle.std.proofs.Math.Dec.{ltb}
 use Rattle.std.proofs.Math.ListN.{get_elem?}
 use borrow.Author.Tests.{eqb-true, eq-eqb, ltb-true, lt-ltb}
-use Rattle.protocol.specs.Protocol.{receiveWindow}
+use Rattle.protocol.specs.Protocol.{receive_window}
 use Rattle.protocol.specs.declared.Settings.{Settings}
 use Rattle.session.specs.Slots.{occurs}
 use Rattle.session.specs.Calls.{Call}
 use Rattle.delivery.specs.PlainReceiver.{
   Plain,
-  atFirst,
+  at_first,
   Found,
-  pushesIn,
+  pushes_in,
   UnheardFrom,
   Unheard,
-  nextExpected,
+  next_expected,
   hear,
   feed,
-  plainAnswer,
+  plain_answer,
   leave,
-  plainAfter,
+  plain_after,
 }
 use Rattle.delivery.specs.Claims.{FedIn, FedBelow, MissingFrom, Missing}
 
-absurd-bool : {A : Type 0} → false ≡ true → A
-absurd-bool e = absurd (let z : ◌≡◌ {A = ℕ} 0 1 = cc in omega arith)
+absurd_bool : {A : Type 0} → false ≡ true → A
+absurd_bool e = absurd (let z : ◌≡◌ {A = ℕ} 0 1 = cc in omega arith)
 
 pub or-true : (a b : Bool) → (a || b) ≡ true → (a ≡ true) ⊎ (b ≡ true)
 or-true true b e = inl refl
@@ -45,119 +45,119 @@ module _ (c : Settings) (accepted : List (List ℕ)) (n : ℕ) where
   abbrev Heard : Plain → Type 0
   Heard p = occurs n p.heard ≡ true
 
-  leave-heard : (p : Plain) (f : Found) → (leave c accepted p f).heard ≡ p.heard
-  leave-heard p Found.nothing = refl
-  leave-heard p Found.short = refl
-  leave-heard p (Found.message m) = refl
+  leave_heard : (p : Plain) (f : Found) → (leave c accepted p f).heard ≡ p.heard
+  leave_heard p Found.nothing = refl
+  leave_heard p Found.short = refl
+  leave_heard p (Found.message m) = refl
 
   -- ---- one push
 
-  hear-preserves : (p : Plain) (sn : ℕ) → Heard p → Heard (hear c accepted p sn)
+  hear_preserves : (p : Plain) (sn : ℕ) → Heard p → Heard (hear c accepted p sn)
   unfolding occurs
-  hear-preserves p sn h = go (ltb sn (nextExpected c accepted p + receiveWindow))
+  hear_preserves p sn h = go (ltb sn (next_expected c accepted p + receive_window))
     where
       go : (b : Bool) → Heard (cond b (record { heard = sn ∷ p.heard; out = p.out }) p)
       go true = or_right (eqb n sn) (occurs n p.heard) h
       go false = h
 
-  hear-below : (p : Plain) → n < nextExpected c accepted p + receiveWindow → Heard (hear c accepted p n)
+  hear_below : (p : Plain) → n < next_expected c accepted p + receive_window → Heard (hear c accepted p n)
   unfolding occurs
-  hear-below p h = rw (lt-ltb n (nextExpected c accepted p + receiveWindow) h, eq-eqb n n refl)
+  hear_below p h = rw (lt-ltb n (next_expected c accepted p + receive_window) h, eq-eqb n n refl)
 
-  hear-only : (p : Plain) (sn : ℕ) → Heard (hear c accepted p sn) → Heard p ⊎ ((sn ≡ n) × (n < nextExpected c accepted p + receiveWindow))
+  hear_only : (p : Plain) (sn : ℕ) → Heard (hear c accepted p sn) → Heard p ⊎ ((sn ≡ n) × (n < next_expected c accepted p + receive_window))
   unfolding occurs
-  hear-only p sn = go (ltb sn (nextExpected c accepted p + receiveWindow)) refl
+  hear_only p sn = go (ltb sn (next_expected c accepted p + receive_window)) refl
     where
-      go : (b : Bool) → ltb sn (nextExpected c accepted p + receiveWindow) ≡ b
+      go : (b : Bool) → ltb sn (next_expected c accepted p + receive_window) ≡ b
           → Heard (cond b (record { heard = sn ∷ p.heard; out = p.out }) p)
-          → Heard p ⊎ ((sn ≡ n) × (n < nextExpected c accepted p + receiveWindow))
+          → Heard p ⊎ ((sn ≡ n) × (n < next_expected c accepted p + receive_window))
       go true e h =
           ⊎_elim
           (λ q. let s : sn ≡ n = omega (arith, eqb-true n sn q) in
-          inr (s, omega (arith, ltb-true sn (nextExpected c accepted p + receiveWindow) e)))
+          inr (s, omega (arith, ltb-true sn (next_expected c accepted p + receive_window) e)))
           (λ q. inl q) (or-true (eqb n sn) (occurs n p.heard) h)
       go false e h = inl h
 
   -- ---- the pushes of a datagram
 
-  feed-preserves : (sns : List ℕ) (p : Plain) → Heard p → Heard (feed c accepted p sns)
+  feed_preserves : (sns : List ℕ) (p : Plain) → Heard p → Heard (feed c accepted p sns)
   unfolding feed
-  feed-preserves [] p h = h
-  feed-preserves (sn ∷ sns) p h = feed-preserves sns (hear c accepted p sn) (hear-preserves p sn h)
+  feed_preserves [] p h = h
+  feed_preserves (sn ∷ sns) p h = feed_preserves sns (hear c accepted p sn) (hear_preserves p sn h)
 
-  feed-hears : (sns : List ℕ) (p : Plain) → FedIn c accepted n p sns → Heard (feed c accepted p sns)
+  feed_hears : (sns : List ℕ) (p : Plain) → FedIn c accepted n p sns → Heard (feed c accepted p sns)
   unfolding feed FedIn
-  feed-hears [] p h = absurd h
-  feed-hears (sn ∷ sns) p h =
-      ⊎_elim (λ q. feed-preserves sns (hear c accepted p sn) (rw q.0 (hear-below p q.1)))
-      (λ q. feed-hears sns (hear c accepted p sn) q) h
+  feed_hears [] p h = absurd h
+  feed_hears (sn ∷ sns) p h =
+      ⊎_elim (λ q. feed_preserves sns (hear c accepted p sn) (rw q.0 (hear_below p q.1)))
+      (λ q. feed_hears sns (hear c accepted p sn) q) h
 
-  feed-only : (sns : List ℕ) (p : Plain) → Heard (feed c accepted p sns) → Heard p ⊎ FedIn c accepted n p sns
+  feed_only : (sns : List ℕ) (p : Plain) → Heard (feed c accepted p sns) → Heard p ⊎ FedIn c accepted n p sns
   unfolding feed FedIn
-  feed-only [] p h = inl h
-  feed-only (sn ∷ sns) p h =
-      ⊎_elim (λ q. ⊎_elim (λ r. inl r) (λ r. inr (inl r)) (hear-only p sn q)) (λ q. inr (inr q)) (feed-only sns (hear c accepted p sn) h)
+  feed_only [] p h = inl h
+  feed_only (sn ∷ sns) p h =
+      ⊎_elim (λ q. ⊎_elim (λ r. inl r) (λ r. inr (inl r)) (hear_only p sn q)) (λ q. inr (inr q)) (feed_only sns (hear c accepted p sn) h)
 
   -- ---- lists of calls
 
-  after-preserves : (xs : List Call) (p : Plain) → Heard p → Heard (plainAfter c accepted p xs)
-  unfolding plainAfter
-  after-preserves [] p h = h
-  after-preserves (Call.takeIn d ∷ xs) p h = after-preserves xs _ (feed-preserves (pushesIn c d) p h)
-  after-preserves (Call.read room ∷ xs) p h = after-preserves xs _ (rw (leave-heard p (plainAnswer c accepted p room)) h)
-  after-preserves (Call.send m ∷ xs) p h = after-preserves xs p h
-  after-preserves (Call.flush t ∷ xs) p h = after-preserves xs p h
-  after-preserves (Call.update t ∷ xs) p h = after-preserves xs p h
-  after-preserves (Call.check t ∷ xs) p h = after-preserves xs p h
+  after_preserves : (xs : List Call) (p : Plain) → Heard p → Heard (plain_after c accepted p xs)
+  unfolding plain_after
+  after_preserves [] p h = h
+  after_preserves (Call.take_in d ∷ xs) p h = after_preserves xs _ (feed_preserves (pushes_in c d) p h)
+  after_preserves (Call.read room ∷ xs) p h = after_preserves xs _ (rw (leave_heard p (plain_answer c accepted p room)) h)
+  after_preserves (Call.send m ∷ xs) p h = after_preserves xs p h
+  after_preserves (Call.flush t ∷ xs) p h = after_preserves xs p h
+  after_preserves (Call.update t ∷ xs) p h = after_preserves xs p h
+  after_preserves (Call.check t ∷ xs) p h = after_preserves xs p h
 
-  pub fed-heard : (xs : List Call) (p : Plain) → FedBelow c accepted n p xs → Heard (plainAfter c accepted p xs)
-  unfolding plainAfter FedBelow
-  fed-heard [] p h = absurd h
-  fed-heard (Call.takeIn d ∷ xs) p h =
-      ⊎_elim (λ q. after-preserves xs _ (feed-hears (pushesIn c d) p q)) (λ q. fed-heard xs _ q) h
-  fed-heard (Call.read room ∷ xs) p h = fed-heard xs _ h
-  fed-heard (Call.send m ∷ xs) p h = fed-heard xs p h
-  fed-heard (Call.flush t ∷ xs) p h = fed-heard xs p h
-  fed-heard (Call.update t ∷ xs) p h = fed-heard xs p h
-  fed-heard (Call.check t ∷ xs) p h = fed-heard xs p h
+  pub fed_heard : (xs : List Call) (p : Plain) → FedBelow c accepted n p xs → Heard (plain_after c accepted p xs)
+  unfolding plain_after FedBelow
+  fed_heard [] p h = absurd h
+  fed_heard (Call.take_in d ∷ xs) p h =
+      ⊎_elim (λ q. after_preserves xs _ (feed_hears (pushes_in c d) p q)) (λ q. fed_heard xs _ q) h
+  fed_heard (Call.read room ∷ xs) p h = fed_heard xs _ h
+  fed_heard (Call.send m ∷ xs) p h = fed_heard xs p h
+  fed_heard (Call.flush t ∷ xs) p h = fed_heard xs p h
+  fed_heard (Call.update t ∷ xs) p h = fed_heard xs p h
+  fed_heard (Call.check t ∷ xs) p h = fed_heard xs p h
 
-  pub heard-fed : (xs : List Call) (p : Plain) → Heard (plainAfter c accepted p xs) → Heard p ⊎ FedBelow c accepted n p xs
-  unfolding plainAfter FedBelow
-  heard-fed [] p h = inl h
-  heard-fed (Call.takeIn d ∷ xs) p h =
-      ⊎_elim (λ q. ⊎_elim (λ r. inl r) (λ r. inr (inl r)) (feed-only (pushesIn c d) p q)) (λ q. inr (inr q)) (heard-fed xs _ h)
-  heard-fed (Call.read room ∷ xs) p h =
-      ⊎_elim (λ q. inl (rw (leave-heard p (plainAnswer c accepted p room)) at q)) (λ q. inr q) (heard-fed xs _ h)
-  heard-fed (Call.send m ∷ xs) p h = heard-fed xs p h
-  heard-fed (Call.flush t ∷ xs) p h = heard-fed xs p h
-  heard-fed (Call.update t ∷ xs) p h = heard-fed xs p h
-  heard-fed (Call.check t ∷ xs) p h = heard-fed xs p h
+  pub heard_fed : (xs : List Call) (p : Plain) → Heard (plain_after c accepted p xs) → Heard p ⊎ FedBelow c accepted n p xs
+  unfolding plain_after FedBelow
+  heard_fed [] p h = inl h
+  heard_fed (Call.take_in d ∷ xs) p h =
+      ⊎_elim (λ q. ⊎_elim (λ r. inl r) (λ r. inr (inl r)) (feed_only (pushes_in c d) p q)) (λ q. inr (inr q)) (heard_fed xs _ h)
+  heard_fed (Call.read room ∷ xs) p h =
+      ⊎_elim (λ q. inl (rw (leave_heard p (plain_answer c accepted p room)) at q)) (λ q. inr q) (heard_fed xs _ h)
+  heard_fed (Call.send m ∷ xs) p h = heard_fed xs p h
+  heard_fed (Call.flush t ∷ xs) p h = heard_fed xs p h
+  heard_fed (Call.update t ∷ xs) p h = heard_fed xs p h
+  heard_fed (Call.check t ∷ xs) p h = heard_fed xs p h
 
   -- since the start
-  pub heard-exactly : (xs : List Call) → Heard (plainAfter c accepted atFirst xs) ↔ FedBelow c accepted n atFirst xs
+  pub heard_exactly : (xs : List Call) → Heard (plain_after c accepted at_first xs) ↔ FedBelow c accepted n at_first xs
   unfolding occurs
-  heard-exactly xs = ((λ h. ⊎_elim (λ q. absurd-bool q) (λ q. q) (heard-fed xs atFirst h)), fed-heard xs atFirst)
+  heard_exactly xs = ((λ h. ⊎_elim (λ q. absurd_bool q) (λ q. q) (heard_fed xs at_first h)), fed_heard xs at_first)
 
 -- ---- what is missing is what is not heard
 
 module _ (c : Settings) (accepted : List (List ℕ)) (xs : List Call) where
-  not-heard : (n : ℕ) → (FedBelow c accepted n atFirst xs → ⊥) → occurs n (plainAfter c accepted atFirst xs).heard ≡ false
-  not-heard n h = go (occurs n (plainAfter c accepted atFirst xs).heard) refl
+  not_heard : (n : ℕ) → (FedBelow c accepted n at_first xs → ⊥) → occurs n (plain_after c accepted at_first xs).heard ≡ false
+  not_heard n h = go (occurs n (plain_after c accepted at_first xs).heard) refl
     where
-      go : (b : Bool) → occurs n (plainAfter c accepted atFirst xs).heard ≡ b → b ≡ false
-      go true e = absurd (h ((heard-exactly c accepted n xs).0 e))
+      go : (b : Bool) → occurs n (plain_after c accepted at_first xs).heard ≡ b → b ≡ false
+      go true e = absurd (h ((heard_exactly c accepted n xs).0 e))
       go false e = refl
 
-  pub missing-unheard : Missing c accepted xs → Unheard c accepted (plainAfter c accepted atFirst xs)
-  missing-unheard = go (get_elem? accepted (plainAfter c accepted atFirst xs).out)
+  pub missing_unheard : Missing c accepted xs → Unheard c accepted (plain_after c accepted at_first xs)
+  missing_unheard = go (get_elem? accepted (plain_after c accepted at_first xs).out)
     where
-      go : (x : Option (List ℕ)) → MissingFrom c accepted xs x → UnheardFrom c accepted (plainAfter c accepted atFirst xs) x
+      go : (x : Option (List ℕ)) → MissingFrom c accepted xs x → UnheardFrom c accepted (plain_after c accepted at_first xs) x
       go none m = tt
-      go (some a) m = (m.0, m.1, m.2, not-heard m.0 m.3)
+      go (some a) m = (m.0, m.1, m.2, not_heard m.0 m.3)
 
-  pub unheard-missing : Unheard c accepted (plainAfter c accepted atFirst xs) → Missing c accepted xs
-  unheard-missing = go (get_elem? accepted (plainAfter c accepted atFirst xs).out)
+  pub unheard_missing : Unheard c accepted (plain_after c accepted at_first xs) → Missing c accepted xs
+  unheard_missing = go (get_elem? accepted (plain_after c accepted at_first xs).out)
     where
-      go : (x : Option (List ℕ)) → UnheardFrom c accepted (plainAfter c accepted atFirst xs) x → MissingFrom c accepted xs x
+      go : (x : Option (List ℕ)) → UnheardFrom c accepted (plain_after c accepted at_first xs) x → MissingFrom c accepted xs x
       go none m = tt
-      go (some a) m = (m.0, m.1, m.2, λ f. let h : false ≡ true = sym m.3 ∙ (heard-exactly c accepted m.0 xs).1 f in absurd-bool h)
+      go (some a) m = (m.0, m.1, m.2, λ f. let h : false ≡ true = sym m.3 ∙ (heard_exactly c accepted m.0 xs).1 f in absurd_bool h)

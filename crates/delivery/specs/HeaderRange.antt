@@ -3,30 +3,30 @@
 use Rattle.std.specs.Prelude.{Bool, true, false, cond, List, [], ◌∷◌, ℕ, zero, suc, ◌+◌, ◌-◌, ◌^◌, ◌<◌, leb, length}
 use Rattle.std.proofs.Math.Nat.{pow-succ'}
 use Rattle.std.proofs.Common.{arith}
-use Rattle.protocol.specs.Protocol.{headerSize}
+use Rattle.protocol.specs.Protocol.{header_size}
 use Rattle.wire.specs.LittleEndian.{number_at, AllBytes}
 use Rattle.wire.specs.Headers.{decode, FieldsFit}
 use Rattle.datagram.specs.declared.Verdict.{Verdict}
 use Rattle.datagram.specs.declared.Verdict.TheVariants.{Passes, Fails}
-use Rattle.datagram.specs.Datagrams.{Segment, verdict, segmentOf, Parsed, inFront, tail, walk, parse}
+use Rattle.datagram.specs.Datagrams.{Segment, verdict, segment_of, Parsed, in_front, tail, walk, parse}
 use Rattle.session.specs.Decides.{All}
 
-pub numberAt-below : (k : ℕ) (s : List ℕ) (i : ℕ) → AllBytes s → number_at k s i < 256 ^ k
+pub number_at_below : (k : ℕ) (s : List ℕ) (i : ℕ) → AllBytes s → number_at k s i < 256 ^ k
 unfolding number_at
-numberAt-below zero s i b = omega arith
-numberAt-below (suc k) s i b = omega (arith, b i, numberAt-below k s (suc i) b, pow-succ' 256 k)
+number_at_below zero s i b = omega arith
+number_at_below (suc k) s i b = omega (arith, b i, number_at_below k s (suc i) b, pow-succ' 256 k)
 
-pub decode-fits : (s : List ℕ) (i : ℕ) → AllBytes s → FieldsFit (decode s i)
+pub decode_fits : (s : List ℕ) (i : ℕ) → AllBytes s → FieldsFit (decode s i)
 unfolding decode
-decode-fits s i b = record {
-  conv = numberAt-below 4 s i b;
-  cmd = numberAt-below 1 s (i + 4) b;
-  frg = numberAt-below 1 s (i + 5) b;
-  wnd = numberAt-below 2 s (i + 6) b;
-  ts = numberAt-below 4 s (i + 8) b;
-  sn = numberAt-below 4 s (i + 12) b;
-  una = numberAt-below 4 s (i + 16) b;
-  len = numberAt-below 4 s (i + 20) b;
+decode_fits s i b = record {
+  conv = number_at_below 4 s i b;
+  cmd = number_at_below 1 s (i + 4) b;
+  frg = number_at_below 1 s (i + 5) b;
+  wnd = number_at_below 2 s (i + 6) b;
+  ts = number_at_below 4 s (i + 8) b;
+  sn = number_at_below 4 s (i + 12) b;
+  una = number_at_below 4 s (i + 16) b;
+  len = number_at_below 4 s (i + 20) b;
 }
 
 abbrev pub HeaderFits : Segment → Type 0
@@ -38,34 +38,34 @@ Each P (Parsed.refused r) = Unit {0}
 Each P (Parsed.segments gs) = All P gs
 
 module _ (P : Segment → Type 0) where
-  in-front : (v : Verdict) (g : Segment) (p : Parsed) → P g → Each P p → Each P (inFront v g p)
-  in-front Passes g (Parsed.refused r) h k = tt
-  in-front Passes g (Parsed.segments gs) h k = (h, k)
-  in-front (Fails r) g p h k = tt
+  in_front_lem : (v : Verdict) (g : Segment) (p : Parsed) → P g → Each P p → Each P (in_front v g p)
+  in_front_lem Passes g (Parsed.refused r) h k = tt
+  in_front_lem Passes g (Parsed.segments gs) h k = (h, k)
+  in_front_lem (Fails r) g p h k = tt
 
   either : (b : Bool) (p q : Parsed) → Each P p → Each P q → Each P (cond b p q)
   either true p q h k = h
   either false p q h k = k
 
-segment-fits : (s : List ℕ) → AllBytes s → HeaderFits (segmentOf s)
-unfolding segmentOf
-segment-fits s b = decode-fits s 0 b
+segment_fits : (s : List ℕ) → AllBytes s → HeaderFits (segment_of s)
+unfolding segment_of
+segment_fits s b = decode_fits s 0 b
 
-walk-fits : (conv mss skip : ℕ) (s : List ℕ) → AllBytes s → Each HeaderFits (walk conv mss skip s)
+walk_fits : (conv mss skip : ℕ) (s : List ℕ) → AllBytes s → Each HeaderFits (walk conv mss skip s)
 unfolding walk tail
-walk-fits conv mss skip [] b = tt
-walk-fits conv mss zero (x ∷ s) b =
-    either HeaderFits (leb headerSize (length (x ∷ s)))
-    (inFront (verdict conv mss (length (x ∷ s) - headerSize) (decode (x ∷ s) 0)) (segmentOf (x ∷ s))
+walk_fits conv mss skip [] b = tt
+walk_fits conv mss zero (x ∷ s) b =
+    either HeaderFits (leb header_size (length (x ∷ s)))
+    (in_front (verdict conv mss (length (x ∷ s) - header_size) (decode (x ∷ s) 0)) (segment_of (x ∷ s))
     (walk conv mss (23 + (decode (x ∷ s) 0).len) s))
     (tail (x ∷ s))
-    (in-front HeaderFits (verdict conv mss (length (x ∷ s) - headerSize) (decode (x ∷ s) 0)) (segmentOf (x ∷ s))
+    (in_front_lem HeaderFits (verdict conv mss (length (x ∷ s) - header_size) (decode (x ∷ s) 0)) (segment_of (x ∷ s))
     (walk conv mss (23 + (decode (x ∷ s) 0).len) s)
-    (segment-fits (x ∷ s) b)
-    (walk-fits conv mss (23 + (decode (x ∷ s) 0).len) s (λ i. b (suc i))))
+    (segment_fits (x ∷ s) b)
+    (walk_fits conv mss (23 + (decode (x ∷ s) 0).len) s (λ i. b (suc i))))
     tt
-walk-fits conv mss (suc skip) (x ∷ s) b = walk-fits conv mss skip s (λ i. b (suc i))
+walk_fits conv mss (suc skip) (x ∷ s) b = walk_fits conv mss skip s (λ i. b (suc i))
 
-pub parse-fits : (conv mss : ℕ) (s : List ℕ) → AllBytes s → Each HeaderFits (parse conv mss s)
+pub parse_fits : (conv mss : ℕ) (s : List ℕ) → AllBytes s → Each HeaderFits (parse conv mss s)
 unfolding parse
-parse-fits conv mss s b = either HeaderFits (leb headerSize (length s)) (walk conv mss 0 s) _ (walk-fits conv mss 0 s b) tt
+parse_fits conv mss s b = either HeaderFits (leb header_size (length s)) (walk conv mss 0 s) _ (walk_fits conv mss 0 s b) tt

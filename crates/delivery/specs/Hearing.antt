@@ -7,7 +7,7 @@ use Rattle.wire.specs.LittleEndian.{AllBytes}
 use Rattle.protocol.specs.declared.Settings.{Settings}
 use Rattle.session.specs.Decides.{All}
 use Rattle.session.specs.Calls.{Call}
-use Rattle.delivery.specs.PlainReceiver.{pushesIn}
+use Rattle.delivery.specs.PlainReceiver.{pushes_in}
 
 -- settings that an opening takes, in 32 bits
 pub record Taken (c : Settings) : Type 0 where
@@ -17,7 +17,7 @@ pub record Taken (c : Settings) : Type 0 where
 -- a call's bytes are bytes, and its time has 32 bits
 abbrev pub CallFits : Call → Type 0
 CallFits (Call.send m) = AllBytes m
-CallFits (Call.takeIn d) = AllBytes d
+CallFits (Call.take_in d) = AllBytes d
 CallFits (Call.flush t) = t < 2 ^ 32
 CallFits (Call.update t) = t < 2 ^ 32
 CallFits (Call.check t) = t < 2 ^ 32
@@ -25,12 +25,12 @@ CallFits (Call.read room) = Unit {0}
 
 -- the sender's pushes carry numbers below 2^30
 abbrev pub FewPushes : Settings → List (List ℕ) → Type 0
-FewPushes c ds = All (λ (d : List ℕ). All (λ (sn : ℕ). sn < 2 ^ 30) (pushesIn c d)) ds
+FewPushes c ds = All (λ (d : List ℕ). All (λ (sn : ℕ). sn < 2 ^ 30) (pushes_in c d)) ds
 
 -- every datagram taken in is one of these: some of them, late, repeated or shuffled
 abbrev pub FedWith : List (List ℕ) → List Call → Type 0
 FedWith ds [] = Unit {0}
-FedWith ds (Call.takeIn d ∷ xs) = Memᴰ d ds × FedWith ds xs
+FedWith ds (Call.take_in d ∷ xs) = Memᴰ d ds × FedWith ds xs
 FedWith ds (Call.send m ∷ xs) = FedWith ds xs
 FedWith ds (Call.flush t ∷ xs) = FedWith ds xs
 FedWith ds (Call.update t ∷ xs) = FedWith ds xs
@@ -41,14 +41,14 @@ FedWith ds (Call.read room ∷ xs) = FedWith ds xs
 -- both send, flush, update and check at any point
 pub data HearsMore : List Call → List Call → Type 0 where
   start : HearsMore [] []
-  both-take : {d : List ℕ} {xs ys : List Call} → HearsMore xs ys → HearsMore (Call.takeIn d ∷ xs) (Call.takeIn d ∷ ys)
+  both_take : {d : List ℕ} {xs ys : List Call} → HearsMore xs ys → HearsMore (Call.take_in d ∷ xs) (Call.take_in d ∷ ys)
   both_read : {room : ℕ} {xs ys : List Call} → HearsMore xs ys → HearsMore (Call.read room ∷ xs) (Call.read room ∷ ys)
-  takes-more : {d : List ℕ} {xs ys : List Call} → HearsMore xs ys → HearsMore xs (Call.takeIn d ∷ ys)
-  first-sends : {m : List ℕ} {xs ys : List Call} → HearsMore xs ys → HearsMore (Call.send m ∷ xs) ys
-  first-flushes : {t : ℕ} {xs ys : List Call} → HearsMore xs ys → HearsMore (Call.flush t ∷ xs) ys
-  first-updates : {t : ℕ} {xs ys : List Call} → HearsMore xs ys → HearsMore (Call.update t ∷ xs) ys
-  first-checks : {t : ℕ} {xs ys : List Call} → HearsMore xs ys → HearsMore (Call.check t ∷ xs) ys
-  second-sends : {m : List ℕ} {xs ys : List Call} → HearsMore xs ys → HearsMore xs (Call.send m ∷ ys)
-  second-flushes : {t : ℕ} {xs ys : List Call} → HearsMore xs ys → HearsMore xs (Call.flush t ∷ ys)
-  second-updates : {t : ℕ} {xs ys : List Call} → HearsMore xs ys → HearsMore xs (Call.update t ∷ ys)
-  second-checks : {t : ℕ} {xs ys : List Call} → HearsMore xs ys → HearsMore xs (Call.check t ∷ ys)
+  takes_more : {d : List ℕ} {xs ys : List Call} → HearsMore xs ys → HearsMore xs (Call.take_in d ∷ ys)
+  first_sends : {m : List ℕ} {xs ys : List Call} → HearsMore xs ys → HearsMore (Call.send m ∷ xs) ys
+  first_flushes : {t : ℕ} {xs ys : List Call} → HearsMore xs ys → HearsMore (Call.flush t ∷ xs) ys
+  first_updates : {t : ℕ} {xs ys : List Call} → HearsMore xs ys → HearsMore (Call.update t ∷ xs) ys
+  first_checks : {t : ℕ} {xs ys : List Call} → HearsMore xs ys → HearsMore (Call.check t ∷ xs) ys
+  second_sends : {m : List ℕ} {xs ys : List Call} → HearsMore xs ys → HearsMore xs (Call.send m ∷ ys)
+  second_flushes : {t : ℕ} {xs ys : List Call} → HearsMore xs ys → HearsMore xs (Call.flush t ∷ ys)
+  second_updates : {t : ℕ} {xs ys : List Call} → HearsMore xs ys → HearsMore xs (Call.update t ∷ ys)
+  second_checks : {t : ℕ} {xs ys : List Call} → HearsMore xs ys → HearsMore xs (Call.check t ∷ ys)

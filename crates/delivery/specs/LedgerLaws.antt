@@ -10,65 +10,65 @@ use native.Mathlib.Omega.{arith}
 use Rattle.std.proofs.lemmas.Bool.{eqb-false}
 use Rattle.std.proofs.Math.ListN.{length}
 use Rattle.std.proofs.lemmas.List.{length-map}
-use Rattle.protocol.specs.Protocol.{sendSlots}
-use Rattle.protocol.specs.Ranges.{in_range, mss, isStream}
-use Rattle.protocol.specs.Serial.{isBefore}
+use Rattle.protocol.specs.Protocol.{send_slots}
+use Rattle.protocol.specs.Ranges.{in_range, mss, is_stream}
+use Rattle.protocol.specs.Serial.{is_before}
 use Rattle.protocol.specs.declared.Settings.{Settings}
 use Rattle.protocol.specs.declared.Refusal.{Refusal}
 use Rattle.datagram.specs.Datagrams.{Segment}
 use Rattle.lists.specs.declared.Held.{Held}
 use Rattle.lists.specs.declared.Sent.{Sent}
-use Rattle.lists.specs.Acknowledging.{select, skipBefore}
+use Rattle.lists.specs.Acknowledging.{select, skip_before}
 use Rattle.session.specs.UsedSlots.{used_all}
-use Rattle.session.specs.State.{State, Sending, sendHeld, slots, withWindow, withQueue, withOutstanding}
+use Rattle.session.specs.State.{State, Sending, send_held, slots, with_window, with_queue, with_outstanding}
 use Rattle.session.specs.Opening.{opened}
-use Rattle.session.specs.Cutting.{fragmentCount, segmentCount}
+use Rattle.session.specs.Cutting.{fragment_count, segment_count}
 use Rattle.session.specs.Sending.{filled}
-use Rattle.session.specs.FillLaws.{filled-queue}
-use Rattle.session.specs.HeardLaws.{heard-outstanding, heard-queued}
-use Rattle.session.specs.Input.{acknowledges, heardBySending, allBySending, furthest, skipped, skippedByAll, ackNumbers, applied}
-use Rattle.session.specs.Flushing.{windowOf, numberedCount, flushing}
-use Rattle.session.specs.Calls.{Station, Call, Reply, Stepped, Event, own, history, after, acceptedBy, acceptedList}
+use Rattle.session.specs.FillLaws.{filled_queue}
+use Rattle.session.specs.HeardLaws.{heard_outstanding, heard_queued}
+use Rattle.session.specs.Input.{acknowledges, heard_by_sending, all_by_sending, furthest, skipped, skipped_by_all, ack_numbers, applied}
+use Rattle.session.specs.Flushing.{window_of, numbered_count, flushing}
+use Rattle.session.specs.Calls.{Station, Call, Reply, Stepped, Event, own, history, after, accepted_by, accepted_list}
 use Rattle.session.specs.Decides.{All}
-use Rattle.session.specs.AllLaws.{all-mapped}
-use Rattle.delivery.specs.PlainReceiver.{segmentsOf}
+use Rattle.session.specs.AllLaws.{all_mapped}
+use Rattle.delivery.specs.PlainReceiver.{segments_of}
 use Rattle.delivery.specs.Hearing.{Taken, CallFits}
 use Rattle.delivery.specs.Stations.{Opened}
-use Rattle.delivery.specs.Passing.{Passing, step-own}
-use Rattle.delivery.specs.PassingLaws.{history-first, after_first}
-use Rattle.session.specs.MapLaws.{map-unchanged}
-use Rattle.delivery.specs.CallCases.{filling, cutting, placing, own-cases}
-use Rattle.delivery.specs.SendPool.{length-cut-as, place-count}
+use Rattle.delivery.specs.Passing.{Passing, step_own}
+use Rattle.delivery.specs.PassingLaws.{history_first, after_first}
+use Rattle.session.specs.MapLaws.{map_unchanged}
+use Rattle.delivery.specs.CallCases.{filling, cutting, placing, own_cases}
+use Rattle.delivery.specs.SendPool.{length_cut_as, place_count}
 use Rattle.delivery.specs.SendingHalf.{Half}
-use Rattle.delivery.specs.SendingTakesIn.{skip-held}
-use Rattle.delivery.specs.SendingFlushes.{flushedWith, flushed-held, window-most, count-few, count_room}
-use Rattle.delivery.specs.SendingStays.{SendingInOrder, own-settings, half_in, sending-stays, sending-always, opened-in-order}
+use Rattle.delivery.specs.SendingTakesIn.{skip_held}
+use Rattle.delivery.specs.SendingFlushes.{flushed_with, flushed_held, window_most, count_few, count_room}
+use Rattle.delivery.specs.SendingStays.{SendingInOrder, own_settings, half_in, sending_stays, sending_always, opened_in_order}
 use Rattle.delivery.specs.Ledger.{
-  usedSlots,
-  fragmentsBy,
-  stationAccepted,
-  acknowledgedByEach,
-  acknowledgedBy,
-  stationAcknowledged,
+  used_slots,
+  fragments_by,
+  station_accepted,
+  acknowledged_by_each,
+  acknowledged_by,
+  station_acknowledged,
   Ledger,
 }
 
 -- ---- slots are held once, so there are as many as segments
 
-pub used-held : (c : Settings) (s : Sending) → Half c s → usedSlots s ≡ length (sendHeld s)
-unfolding usedSlots
-used-held c s h =
-    used_all sendSlots (slots (sendHeld s)) h.held.distinct
-    (all-mapped (λ (n : ℕ). n < sendSlots) (λ (x : Held). x.slot) (sendHeld s) h.held.low)
-    ∙ length-map (sendHeld s) (λ (x : Held). x.slot)
+pub used_held : (c : Settings) (s : Sending) → Half c s → used_slots s ≡ length (send_held s)
+unfolding used_slots
+used_held c s h =
+    used_all send_slots (slots (send_held s)) h.held.distinct
+    (all_mapped (λ (n : ℕ). n < send_slots) (λ (x : Held). x.slot) (send_held s) h.held.low)
+    ∙ length-map (send_held s) (λ (x : Held). x.slot)
 
 -- ---- an arriving segment removes what it acknowledges
 
 module _ {A : Type 0} where
-  select-count : (f : A → Bool) (l : List A) → length (select (λ (x : A). not (f x)) l) + length (select f l) ≡ length l
+  select_count : (f : A → Bool) (l : List A) → length (select (λ (x : A). not (f x)) l) + length (select f l) ≡ length l
   unfolding select
-  select-count f [] = omega arith
-  select-count f (x ∷ l) = go (f x) (select-count f l)
+  select_count f [] = omega arith
+  select_count f (x ∷ l) = go (f x) (select_count f l)
     where
       go : (b : Bool) → length (select (λ (x : A). not (f x)) l) + length (select f l) ≡ length l →
           length (cond (not b) (x ∷ select (λ (x : A). not (f x)) l) (select (λ (x : A). not (f x)) l))
@@ -79,64 +79,64 @@ module _ {A : Type 0} where
 -- ---- how many segments are held
 
 abbrev held : Sending → ℕ
-held s = length (sendHeld s)
+held s = length (send_held s)
 
-held-parts : (s : Sending) → held s ≡ length s.outstanding + length s.queued
-held-parts s = simp (length-append, length-map)
+held_parts : (s : Sending) → held s ≡ length s.outstanding + length s.queued
+held_parts s = simp (length-append, length-map)
 
 module _ (c : Settings) (current : ℕ) where
-  each-held : (s : Sending) (gs : List Segment) → held (allBySending c current s gs) + acknowledgedByEach c current s gs ≡ held s
-  unfolding allBySending acknowledgedByEach
-  each-held s [] = omega arith
-  each-held s (g ∷ gs) =
-      let s' : Sending = heardBySending c current s g.header in
+  each_held : (s : Sending) (gs : List Segment) → held (all_by_sending c current s gs) + acknowledged_by_each c current s gs ≡ held s
+  unfolding all_by_sending acknowledged_by_each
+  each_held s [] = omega arith
+  each_held s (g ∷ gs) =
+      let s' : Sending = heard_by_sending c current s g.header in
       omega (
         arith,
-        each-held s' gs,
-        held-parts s,
-        held-parts s',
-        ap length (heard-outstanding c current s g.header),
-        ap length (heard-queued c current s g.header),
-        select-count (λ (x : Sent). acknowledges s.next g.header x.record.number) s.outstanding,
+        each_held s' gs,
+        held_parts s,
+        held_parts s',
+        ap length (heard_outstanding c current s g.header),
+        ap length (heard_queued c current s g.header),
+        select_count (λ (x : Sent). acknowledges s.next g.header x.record.number) s.outstanding,
       )
 
-skipped-held : (s : Sending) (n : ℕ) → held (skipped s n) ≡ held s
+skipped_held : (s : Sending) (n : ℕ) → held (skipped s n) ≡ held s
 unfolding skipped
-skipped-held s n = go (not (isBefore n s.una) && isBefore n s.next)
+skipped_held s n = go (not (is_before n s.una) && is_before n s.next)
   where
     go : (b : Bool) →
-        held (cond b (withOutstanding s s.una (map (skipBefore n) s.outstanding)) s) ≡ held s
-    go true = rw (map-unchanged (λ (x : Sent). x.held) (skipBefore n) (skip-held n) s.outstanding)
+        held (cond b (with_outstanding s s.una (map (skip_before n) s.outstanding)) s) ≡ held s
+    go true = rw (map_unchanged (λ (x : Sent). x.held) (skip_before n) (skip_held n) s.outstanding)
     go false = refl
 
-skips-held : (s : Sending) (l : List ℕ) → held (skippedByAll s l) ≡ held s
-skips-held s [] = refl
-skips-held s (n ∷ l) = skipped-held s (furthest n l)
+skips_held : (s : Sending) (l : List ℕ) → held (skipped_by_all s l) ≡ held s
+skips_held s [] = refl
+skips_held s (n ∷ l) = skipped_held s (furthest n l)
 
 -- ---- one call
 
 -- held after, with what is acknowledged, is held before, with what is accepted
 abbrev Balances : Station → Call → Stepped → Type 0
 Balances s x y =
-    held y.station.state.sending + acknowledgedBy s x y.answer ≡ held s.state.sending + fragmentsBy s x y.answer
+    held y.station.state.sending + acknowledged_by s x y.answer ≡ held s.state.sending + fragments_by s x y.answer
 
 balances : (s : Station) → SendingInOrder s.state.settings s → (x : Call) → Balances s x (own s x)
 unfolding applied flushing
 balances s o =
-    own-cases (Balances s) s nothing
+    own_cases (Balances s) s nothing
     (λ m ok. omega (
       arith,
-      held-parts (withQueue d ((filling c d s.sendPool m).queued ++ (placing c d s.sendPool m).segments)),
-      held-parts d,
-      length-append (filling c d s.sendPool m).queued (placing c d s.sendPool m).segments,
-      filled-count m,
-      place-count (isStream c) (mss c) (slots (sendHeld d)) (filling c d s.sendPool m).pool (cutting c d s.sendPool m),
-      length-cut-as (isStream c) (mss c) (filling c d s.sendPool m).rest,
+      held_parts (with_queue d ((filling c d s.send_pool m).queued ++ (placing c d s.send_pool m).segments)),
+      held_parts d,
+      length-append (filling c d s.send_pool m).queued (placing c d s.send_pool m).segments,
+      filled_count m,
+      place_count (is_stream c) (mss c) (slots (send_held d)) (filling c d s.send_pool m).pool (cutting c d s.send_pool m),
+      length_cut_as (is_stream c) (mss c) (filling c d s.send_pool m).rest,
     ))
     (λ b gs e. rw e (omega (
       arith,
-      each-held c s.state.current d gs,
-      skips-held (allBySending c s.state.current d gs) (ackNumbers gs),
+      each_held c s.state.current d gs,
+      skips_held (all_by_sending c s.state.current d gs) (ack_numbers gs),
     )))
     (λ t. omega (arith, ap length (flushed t)))
     (λ room. omega arith)
@@ -151,16 +151,16 @@ balances s o =
     d = s.state.sending
 
     -- filling adds no segment
-    filled-count : (m : List ℕ) → length (filling c d s.sendPool m).queued ≡ length d.queued
-    filled-count m = filled-queue (mss c) d.queued s.sendPool m (isStream c)
+    filled_count : (m : List ℕ) → length (filling c d s.send_pool m).queued ≡ length d.queued
+    filled_count m = filled_queue (mss c) d.queued s.send_pool m (is_stream c)
 
-    flushed : (t : ℕ) → sendHeld (flushedWith c t (numberedCount (windowOf s.state) d) d) ≡ sendHeld d
-    flushed t = flushed-held c t (numberedCount (windowOf s.state) d) d (count-few (windowOf s.state) d)
-        (count_room (windowOf s.state) d (window-most s.state) (half_in c s o).numbers.apart)
+    flushed : (t : ℕ) → send_held (flushed_with c t (numbered_count (window_of s.state) d) d) ≡ send_held d
+    flushed t = flushed_held c t (numbered_count (window_of s.state) d) d (count_few (window_of s.state) d)
+        (count_room (window_of s.state) d (window_most s.state) (half_in c s o).numbers.apart)
 
     nothing : (x : Call) (r : Refusal) → Balances s x (record { station = s; answer = Reply.refused r })
     nothing (Call.send m) r = omega arith
-    nothing (Call.takeIn b) r = omega arith
+    nothing (Call.take_in b) r = omega arith
     nothing (Call.flush t) r = omega arith
     nothing (Call.update t) r = omega arith
     nothing (Call.check t) r = omega arith
@@ -169,103 +169,103 @@ balances s o =
 -- ---- lists of calls
 
 -- the first call of a list that passes
-acknowledged-first : (s : Station) (x : Call) (xs : List Call) → Passing s (x ∷ xs) →
-    stationAcknowledged s (x ∷ xs) ≡ acknowledgedBy s x (own s x).answer + stationAcknowledged (own s x).station xs
-unfolding stationAcknowledged
-acknowledged-first s x xs p = rw (step-own s x p.0 p.1)
+acknowledged_first : (s : Station) (x : Call) (xs : List Call) → Passing s (x ∷ xs) →
+    station_acknowledged s (x ∷ xs) ≡ acknowledged_by s x (own s x).answer + station_acknowledged (own s x).station xs
+unfolding station_acknowledged
+acknowledged_first s x xs p = rw (step_own s x p.0 p.1)
 
-accepted-first : (s : Station) (x : Call) (xs : List Call) → Passing s (x ∷ xs) →
-    stationAccepted s (x ∷ xs) ≡ fragmentsBy s x (own s x).answer + stationAccepted (own s x).station xs
-unfolding stationAccepted
-accepted-first s x xs p = rw (step-own s x p.0 p.1)
+accepted_first : (s : Station) (x : Call) (xs : List Call) → Passing s (x ∷ xs) →
+    station_accepted s (x ∷ xs) ≡ fragments_by s x (own s x).answer + station_accepted (own s x).station xs
+unfolding station_accepted
+accepted_first s x xs p = rw (step_own s x p.0 p.1)
 
 -- by any name of the settings
-balances-by : (c : Settings) (s : Station) (x : Call) → SendingInOrder c s → Balances s x (own s x)
-balances-by c s x o = subst (λ (c : Settings). SendingInOrder c s → Balances s x (own s x)) o.settings (λ o. balances s o x) o
+balances_by : (c : Settings) (s : Station) (x : Call) → SendingInOrder c s → Balances s x (own s x)
+balances_by c s x o = subst (λ (c : Settings). SendingInOrder c s → Balances s x (own s x)) o.settings (λ o. balances s o x) o
 
-all-balance : (c : Settings) → in_range c ≡ true → (calls : List Call) (s : Station) → All CallFits calls → Passing s calls
+all_balance : (c : Settings) → in_range c ≡ true → (calls : List Call) (s : Station) → All CallFits calls → Passing s calls
     → SendingInOrder c s →
-    held (after s calls).state.sending + stationAcknowledged s calls ≡ held s.state.sending + stationAccepted s calls
-unfolding after stationAcknowledged stationAccepted
-all-balance c range [] s k p o = omega arith
-all-balance c range (x ∷ xs) s k p o =
+    held (after s calls).state.sending + station_acknowledged s calls ≡ held s.state.sending + station_accepted s calls
+unfolding after station_acknowledged station_accepted
+all_balance c range [] s k p o = omega arith
+all_balance c range (x ∷ xs) s k p o =
     omega (
       arith,
       ap (λ (y : Station). held y.state.sending) (after_first s x xs p),
-      acknowledged-first s x xs p,
-      accepted-first s x xs p,
-      balances-by c s x o,
-      all-balance c range xs (own s x).station k.1 p.2 (sending-stays c range s x k.0 o),
+      acknowledged_first s x xs p,
+      accepted_first s x xs p,
+      balances_by c s x o,
+      all_balance c range xs (own s x).station k.1 p.2 (sending_stays c range s x k.0 o),
     )
 
 -- ---- in message mode the fragments accepted are those of the messages accepted
 
-segmentsOf-append : (m : ℕ) (a b : List (List ℕ)) → segmentsOf m (a ++ b) ≡ segmentsOf m a + segmentsOf m b
-unfolding segmentsOf
-segmentsOf-append m [] b = omega arith
-segmentsOf-append m (x ∷ a) b = omega (arith, segmentsOf-append m a b)
+segments_of_append : (m : ℕ) (a b : List (List ℕ)) → segments_of m (a ++ b) ≡ segments_of m a + segments_of m b
+unfolding segments_of
+segments_of_append m [] b = omega arith
+segments_of_append m (x ∷ a) b = omega (arith, segments_of_append m a b)
 
-messages-first : (m : ℕ) (s : Station) (x : Call) (xs : List Call) → Passing s (x ∷ xs) →
-    segmentsOf m (acceptedList (history s (x ∷ xs)))
-    ≡ segmentsOf m (acceptedBy x (own s x).answer) + segmentsOf m (acceptedList (history (own s x).station xs))
-unfolding acceptedList
-messages-first m s x xs p =
-    ap (λ (l : List Event). segmentsOf m (acceptedList l)) (history-first s x xs p)
-    ∙ segmentsOf-append m (acceptedBy x (own s x).answer) (acceptedList (history (own s x).station xs))
+messages_first : (m : ℕ) (s : Station) (x : Call) (xs : List Call) → Passing s (x ∷ xs) →
+    segments_of m (accepted_list (history s (x ∷ xs)))
+    ≡ segments_of m (accepted_by x (own s x).answer) + segments_of m (accepted_list (history (own s x).station xs))
+unfolding accepted_list
+messages_first m s x xs p =
+    ap (λ (l : List Event). segments_of m (accepted_list l)) (history_first s x xs p)
+    ∙ segments_of_append m (accepted_by x (own s x).answer) (accepted_list (history (own s x).station xs))
 
 -- nothing is filled, and a message is cut whole
-whole-cut : (stream : Bool) → stream ≡ false → (m : ℕ) (q : List Held) (pool b : List ℕ) →
-    segmentCount stream m (length (filled stream m q pool b).rest) ≡ fragmentCount m (length b)
-unfolding filled segmentCount
-whole-cut false e m q pool b = refl
-whole-cut true e m q pool b = absurd (true≢false e)
+whole_cut : (stream : Bool) → stream ≡ false → (m : ℕ) (q : List Held) (pool b : List ℕ) →
+    segment_count stream m (length (filled stream m q pool b).rest) ≡ fragment_count m (length b)
+unfolding filled segment_count
+whole_cut false e m q pool b = refl
+whole_cut true e m q pool b = absurd (true≢false e)
 
-messages-by : (s : Station) → isStream s.state.settings ≡ false → (x : Call) (a : Reply) →
-    fragmentsBy s x a ≡ segmentsOf (mss s.state.settings) (acceptedBy x a)
-unfolding segmentsOf
-messages-by s e (Call.send m) Reply.accepted =
+messages_by : (s : Station) → is_stream s.state.settings ≡ false → (x : Call) (a : Reply) →
+    fragments_by s x a ≡ segments_of (mss s.state.settings) (accepted_by x a)
+unfolding segments_of
+messages_by s e (Call.send m) Reply.accepted =
     let c = s.state.settings in
-    omega (arith, whole-cut (isStream c) e (mss c) s.state.sending.queued s.sendPool m)
-messages-by s e (Call.send m) (Reply.refused r) = refl
-messages-by s e (Call.send m) (Reply.wrote ds) = refl
-messages-by s e (Call.send m) (Reply.message b) = refl
-messages-by s e (Call.send m) Reply.waited = refl
-messages-by s e (Call.send m) (Reply.named t) = refl
-messages-by s e (Call.takeIn d) a = refl
-messages-by s e (Call.flush t) a = refl
-messages-by s e (Call.update t) a = refl
-messages-by s e (Call.check t) a = refl
-messages-by s e (Call.read room) a = refl
+    omega (arith, whole_cut (is_stream c) e (mss c) s.state.sending.queued s.send_pool m)
+messages_by s e (Call.send m) (Reply.refused r) = refl
+messages_by s e (Call.send m) (Reply.wrote ds) = refl
+messages_by s e (Call.send m) (Reply.message b) = refl
+messages_by s e (Call.send m) Reply.waited = refl
+messages_by s e (Call.send m) (Reply.named t) = refl
+messages_by s e (Call.take_in d) a = refl
+messages_by s e (Call.flush t) a = refl
+messages_by s e (Call.update t) a = refl
+messages_by s e (Call.check t) a = refl
+messages_by s e (Call.read room) a = refl
 
-pub station-messages : (c : Settings) → isStream c ≡ false → (calls : List Call) (s : Station) → s.state.settings ≡ c → Passing s calls →
-    stationAccepted s calls ≡ segmentsOf (mss c) (acceptedList (history s calls))
-unfolding stationAccepted acceptedList history segmentsOf
-station-messages c off [] s e p = refl
-station-messages c off (x ∷ xs) s e p =
+pub station_messages : (c : Settings) → is_stream c ≡ false → (calls : List Call) (s : Station) → s.state.settings ≡ c → Passing s calls →
+    station_accepted s calls ≡ segments_of (mss c) (accepted_list (history s calls))
+unfolding station_accepted accepted_list history segments_of
+station_messages c off [] s e p = refl
+station_messages c off (x ∷ xs) s e p =
     omega (
       arith,
-      accepted-first s x xs p,
-      messages-first (mss c) s x xs p,
-      messages-by s (ap isStream e ∙ off) x (own s x).answer
-          ∙ ap (λ (d : Settings). segmentsOf (mss d) (acceptedBy x (own s x).answer)) e,
-      station-messages c off xs (own s x).station (own-settings s x ∙ e) p.2,
+      accepted_first s x xs p,
+      messages_first (mss c) s x xs p,
+      messages_by s (ap is_stream e ∙ off) x (own s x).answer
+          ∙ ap (λ (d : Settings). segments_of (mss d) (accepted_by x (own s x).answer)) e,
+      station_messages c off xs (own s x).station (own_settings s x ∙ e) p.2,
     )
 
 -- ---- since opening
 
-opened-held : (c : Settings) → held (opened c).sending ≡ 0
+opened_held : (c : Settings) → held (opened c).sending ≡ 0
 unfolding opened
-opened-held c = refl
+opened_held c = refl
 
 module _ (c : Settings) (taken : Taken c) (s : Station) (p : Opened c s) (calls : List Call) (k : All CallFits calls) (q : Passing s calls)
   where
-    pub station-ledger : Ledger (after s calls).state.sending (stationAccepted s calls) (stationAcknowledged s calls)
-    station-ledger =
-        let o : SendingInOrder c s = opened-in-order c s p in
-        let after-all : SendingInOrder c (after s calls) = sending-always c taken.range calls s k q o in
+    pub station_ledger : Ledger (after s calls).state.sending (station_accepted s calls) (station_acknowledged s calls)
+    station_ledger =
+        let o : SendingInOrder c s = opened_in_order c s p in
+        let after_all : SendingInOrder c (after s calls) = sending_always c taken.range calls s k q o in
         omega (
           arith,
-          used-held c (after s calls).state.sending (half_in c (after s calls) after-all),
-          all-balance c taken.range calls s k q o,
-          ap (λ (x : State). held x.sending) p.state ∙ opened-held c,
+          used_held c (after s calls).state.sending (half_in c (after s calls) after_all),
+          all_balance c taken.range calls s k q o,
+          ap (λ (x : State). held x.sending) p.state ∙ opened_held c,
         )

@@ -2,13 +2,13 @@
 -- Assumes nothing.
 use Rattle.std.specs.Prelude.{◌≡◌, refl, true, List, [], ◌∷◌}
 use Rattle.session.specs.Valid.{valid}
-use Rattle.session.specs.Calls.{Station, Call, own, longEnough, step}
+use Rattle.session.specs.Calls.{Station, Call, own, long_enough, step}
 
 -- each call of the list finds parts that are long enough, and a valid state
 abbrev pub Passing : Station → List Call → Type 0
 Passing s [] = Unit {0}
-Passing s (x ∷ xs) = (longEnough s x ≡ true) × (valid s.state ≡ true) × Passing (own s x).station xs
+Passing s (x ∷ xs) = (long_enough s x ≡ true) × (valid s.state ≡ true) × Passing (own s x).station xs
 
-pub step-own : (s : Station) (x : Call) → longEnough s x ≡ true → valid s.state ≡ true → step s x ≡ own s x
+pub step_own : (s : Station) (x : Call) → long_enough s x ≡ true → valid s.state ≡ true → step s x ≡ own s x
 unfolding step
-step-own s x long made = rw (long, made)
+step_own s x long made = rw (long, made)

@@ -35,7 +35,7 @@ piece_of g = record { fragment = g.header.frg; payload = g.payload }
 
 -- a push that is the accepted segment of its number, which is below 2^30
 pub record Genuine (pieces : List Piece) (g : Segment) : Type 0 where
-  pub its-piece : get_elem? pieces g.header.sn ≡ some (piece_of g)
+  pub its_piece : get_elem? pieces g.header.sn ≡ some (piece_of g)
   pub small : g.header.sn < 2 ^ 30
 
 -- the pushes among segments
@@ -45,6 +45,6 @@ pushes (g ∷ gs) = cond (eqb g.header.cmd push) (g ∷ pushes gs) (pushes gs)
 
 -- a datagram that a link of these settings takes in whole, all of its pushes genuine
 pub record GenuineDatagram (c : Settings) (pieces : List Piece) (d : List ℕ) : Type 0 where
-  pub its-segments : List Segment
-  pub parses : parse c.conv (mss c) d ≡ Parsed.segments its-segments
-  pub genuine : All (Genuine pieces) (pushes its-segments)
+  pub its_segments : List Segment
+  pub parses : parse c.conv (mss c) d ≡ Parsed.segments its_segments
+  pub genuine : All (Genuine pieces) (pushes its_segments)

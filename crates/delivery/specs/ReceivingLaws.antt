@@ -3,42 +3,42 @@
 use Rattle.std.specs.Prelude.{◌≡◌, refl, Bool, true, false, cond, ◌&&◌, List, [], ◌∷◌, ℕ, ◌*◌, ◌^◌, ◌≤◌, ◌<◌, leb, ltb, length}
 use Rattle.std.proofs.Common.{sym, ap, ◌∙◌, subst, zero-le, arith, leb-true}
 use Rattle.std.proofs.Math.Bool.{and_assoc}
-use Rattle.protocol.specs.Protocol.{sendSlots, fragmentMost, receiveSlots, receiveWindow, acksMost, outputLeast}
+use Rattle.protocol.specs.Protocol.{send_slots, fragment_most, receive_slots, receive_window, acks_most, output_least}
 use Rattle.protocol.specs.Ranges.{mss}
 use Rattle.protocol.specs.declared.Settings.{Settings}
 use Rattle.datagram.specs.Datagrams.{Parsed, parse}
 use Rattle.lists.specs.declared.Held.{Held}
 use Rattle.lists.specs.declared.Waiting.{Waiting}
-use Rattle.lists.specs.Orders.{ascending, waitingOffset}
+use Rattle.lists.specs.Orders.{ascending, waiting_offset}
 use Rattle.timing.specs.Choices.{either_way}
 use Rattle.schedule.specs.Schedules.{updated}
 use Rattle.schedule.specs.declared.Updated.{Updated}
 use Rattle.schedule.specs.declared.Schedule.{Schedule}
-use Rattle.session.specs.State.{State, Receiving, Outcome, receiveHeld, slots, withNotes}
-use Rattle.sizes.specs.Sizes.{enough, enoughToFlush}
+use Rattle.session.specs.State.{State, Receiving, Outcome, receive_held, slots, with_notes}
+use Rattle.sizes.specs.Sizes.{enough, enough_to_flush}
 use Rattle.sizes.specs.declared.Lengths.{Lengths}
-use Rattle.lists.specs.Receiving.{startsAt}
-use Rattle.session.specs.Valid.{all, once, heldFits, waitingFits, settled, receivingValid}
+use Rattle.lists.specs.Receiving.{starts_at}
+use Rattle.session.specs.Valid.{all, once, held_fits, waiting_fits, settled, receiving_valid}
 use Rattle.session.specs.Opening.{opened}
 use Rattle.session.specs.Sending.{Sends}
 use Rattle.session.specs.Flushing.{flushing}
-use Rattle.session.specs.Input.{Receiver, allByReceiving, taking, applied, input}
-use Rattle.session.specs.Reading.{readable, messageSize, reading}
+use Rattle.session.specs.Input.{Receiver, all_by_receiving, taking, applied, input}
+use Rattle.session.specs.Reading.{readable, message_size, reading}
 use Rattle.session.specs.Updating.{updating}
-use Rattle.session.specs.Calls.{Station, Call, Stepped, lengthsOf, afterSend, afterTakeIn, own, after}
-use Rattle.session.specs.Decides.{Decides, All, leb-decides, ltb-decides, not-decides, and-decides, via, all-decides, and_parts}
+use Rattle.session.specs.Calls.{Station, Call, Stepped, lengths_of, after_send, after_take_in, own, after}
+use Rattle.session.specs.Decides.{Decides, All, leb_decides, ltb_decides, not_decides, and_decides, via, all_decides, and_parts}
 use Rattle.session.specs.AllLaws.{all_both, all_weaker}
 use Rattle.delivery.specs.Hearing.{CallFits}
 use Rattle.delivery.specs.Stations.{Opened}
 use Rattle.delivery.specs.Passing.{Passing}
 use Rattle.delivery.specs.PassingLaws.{after_first}
 use Rattle.delivery.specs.HeaderRange.{Each}
-use Rattle.delivery.specs.CallCases.{sending-cases, own-cases}
-use Rattle.delivery.specs.SendingStays.{own-settings, own-send-pool}
+use Rattle.delivery.specs.CallCases.{sending_cases, own_cases}
+use Rattle.delivery.specs.SendingStays.{own_settings, own_send_pool}
 use Rattle.delivery.specs.StateRange.{CarryFits}
-use Rattle.delivery.specs.CarryLaws.{carry-stays}
-use Rattle.delivery.specs.ParsedLaws.{SegmentFits, parse-fits}
-use Rattle.delivery.specs.ReceivePool.{HeldFits, Good, took-all, took-pool, readFrom, read-good}
+use Rattle.delivery.specs.CarryLaws.{carry_stays}
+use Rattle.delivery.specs.ParsedLaws.{SegmentFits, parse_fits}
+use Rattle.delivery.specs.ReceivePool.{HeldFits, Good, took_all, took_pool, read_from, read_good}
 
 -- the numbers of a receiving half have 32 bits: rcv_nxt and the acks (`CarryFits`), and those that wait
 pub record ReceivingFits (r : Receiving) : Type 0 where
@@ -48,285 +48,285 @@ pub record ReceivingFits (r : Receiving) : Type 0 where
 -- what every call preserves of the receiving half and its pool
 pub record ReceivingInOrder (c : Settings) (s : Station) : Type 0 where
   pub settings : s.state.settings ≡ c
-  pub long : receiveSlots * mss c ≤ length s.receivePool
-  pub valid : receivingValid c s.state.receiving ≡ true
+  pub long : receive_slots * mss c ≤ length s.receive_pool
+  pub valid : receiving_valid c s.state.receiving ≡ true
   pub fits : ReceivingFits s.state.receiving
 
 -- ---- the conditions as the proofs use them
 
 record Conditions (c : Settings) (r : Receiving) : Type 0 where
-  held : All (HeldFits (mss c)) (receiveHeld r)
-  slots-once : once (slots (receiveHeld r)) ≡ true
-  few-ready : length r.ready ≤ receiveWindow
-  window : ascending (waitingOffset r.next) 0 receiveWindow r.waiting ≡ true
-  settles : (startsAt r.next r.waiting && ltb (length r.ready) receiveWindow) ≡ false
-  few-acks : length r.acks ≤ acksMost
+  held : All (HeldFits (mss c)) (receive_held r)
+  slots_once : once (slots (receive_held r)) ≡ true
+  few_ready : length r.ready ≤ receive_window
+  window : ascending (waiting_offset r.next) 0 receive_window r.waiting ≡ true
+  settles : (starts_at r.next r.waiting && ltb (length r.ready) receive_window) ≡ false
+  few_acks_lem : length r.acks ≤ acks_most
 
 -- a test that is its own statement
 itself : (b : Bool) → Decides b (b ≡ true)
 itself b = record { holds = λ e. e; passes = λ e. e }
 
 abbrev Short : ℕ → Held → Type 0
-Short m h = (h.len ≤ m) × (h.fragment ≤ fragmentMost)
+Short m h = (h.len ≤ m) × (h.fragment ≤ fragment_most)
 
 abbrev Low : Held → Type 0
-Low h = h.slot < receiveSlots
+Low h = h.slot < receive_slots
 
-held-decide : (m : ℕ) (l : List Held)
-    → Decides (all (heldFits m) l && all (λ (h : Held). ltb h.slot receiveSlots) l) (All (HeldFits m) l)
-held-decide m l =
+held_decide : (m : ℕ) (l : List Held)
+    → Decides (all (held_fits m) l && all (λ (h : Held). ltb h.slot receive_slots) l) (All (HeldFits m) l)
+held_decide m l =
     via
-    (and-decides
-    (all-decides (heldFits m) (Short m) (λ h. and-decides (leb-decides h.len m) (leb-decides h.fragment fragmentMost)) l)
-    (all-decides (λ (h : Held). ltb h.slot receiveSlots) Low (λ h. ltb-decides h.slot receiveSlots) l))
+    (and_decides
+    (all_decides (held_fits m) (Short m) (λ h. and_decides (leb_decides h.len m) (leb_decides h.fragment fragment_most)) l)
+    (all_decides (λ (h : Held). ltb h.slot receive_slots) Low (λ h. ltb_decides h.slot receive_slots) l))
     (λ p. all_weaker (λ h. Short m h × Low h) (HeldFits m) (λ h q. record { short = q.0.0; fragment = q.0.1; low = q.1 }) l
     (all_both (Short m) Low l p.0 p.1))
     (λ a. (all_weaker (HeldFits m) (Short m) (λ h q. (q.short, q.fragment)) l a, all_weaker (HeldFits m) Low (λ h q. q.low) l a))
 
-conditions : (c : Settings) (r : Receiving) → Decides (receivingValid c r) (Conditions c r)
-unfolding receivingValid waitingFits settled
+conditions : (c : Settings) (r : Receiving) → Decides (receiving_valid c r) (Conditions c r)
+unfolding receiving_valid waiting_fits settled
 conditions c r =
-    rw (← and_assoc (all (heldFits (mss c)) (receiveHeld r)))
+    rw (← and_assoc (all (held_fits (mss c)) (receive_held r)))
     (via
-    (and-decides
-    (and-decides
-    (and-decides
-    (and-decides (and-decides (held-decide (mss c) (receiveHeld r)) (itself (once (slots (receiveHeld r)))))
-    (leb-decides (length r.ready) receiveWindow))
-    (itself (ascending (waitingOffset r.next) 0 receiveWindow r.waiting)))
-    (not-decides (startsAt r.next r.waiting && ltb (length r.ready) receiveWindow)))
-    (leb-decides (length r.acks) acksMost))
+    (and_decides
+    (and_decides
+    (and_decides
+    (and_decides (and_decides (held_decide (mss c) (receive_held r)) (itself (once (slots (receive_held r)))))
+    (leb_decides (length r.ready) receive_window))
+    (itself (ascending (waiting_offset r.next) 0 receive_window r.waiting)))
+    (not_decides (starts_at r.next r.waiting && ltb (length r.ready) receive_window)))
+    (leb_decides (length r.acks) acks_most))
     (λ p. record {
       held = p.0.0.0.0.0;
-      slots-once = p.0.0.0.0.1;
-      few-ready = p.0.0.0.1;
+      slots_once = p.0.0.0.0.1;
+      few_ready = p.0.0.0.1;
       window = p.0.0.1;
       settles = p.0.1;
-      few-acks = p.1;
+      few_acks_lem = p.1;
     })
-    (λ v. (((((v.held, v.slots-once), v.few-ready), v.window), v.settles), v.few-acks)))
+    (λ v. (((((v.held, v.slots_once), v.few_ready), v.window), v.settles), v.few_acks_lem)))
 
 -- a station's receiving half with its pool
-abbrev pub receiverOf : Station → Receiver
-receiverOf s = record { half = s.state.receiving; pool = s.receivePool }
+abbrev pub receiver_of : Station → Receiver
+receiver_of s = record { half = s.state.receiving; pool = s.receive_pool }
 
-pub good-in : (c : Settings) (s : Station) → ReceivingInOrder c s → Good (mss c) (receiverOf s)
-good-in c s o =
+pub good_in : (c : Settings) (s : Station) → ReceivingInOrder c s → Good (mss c) (receiver_of s)
+good_in c s o =
     let v : Conditions c s.state.receiving = (conditions c s.state.receiving).holds o.valid in
     record {
       settles = record {
         sound = record {
-          pool-long = o.long;
+          pool_long = o.long;
           held = v.held;
-          slots-once = v.slots-once;
-          few-ready = v.few-ready;
+          slots_once = v.slots_once;
+          few_ready = v.few_ready;
           next_small = o.fits.carries.next;
-          numbers-small = o.fits.waiting;
+          numbers_small = o.fits.waiting;
           window = v.window;
         };
         settled = v.settles;
       };
-      few-acks = v.few-acks;
+      few_acks_lem = v.few_acks_lem;
     }
 
-in_order : (c : Settings) (s : Station) → s.state.settings ≡ c → CarryFits s.state.receiving → Good (mss c) (receiverOf s)
+in_order : (c : Settings) (s : Station) → s.state.settings ≡ c → CarryFits s.state.receiving → Good (mss c) (receiver_of s)
     → ReceivingInOrder c s
 in_order c s e f g =
     let x = g.settles.sound in
     record {
       settings = e;
-      long = x.pool-long;
+      long = x.pool_long;
       valid =
           (conditions c s.state.receiving).passes
           (record {
             held = x.held;
-            slots-once = x.slots-once;
-            few-ready = x.few-ready;
+            slots_once = x.slots_once;
+            few_ready = x.few_ready;
             window = x.window;
             settles = g.settles.settled;
-            few-acks = g.few-acks;
+            few_acks_lem = g.few_acks_lem;
           });
-      fits = record { carries = f; waiting = x.numbers-small };
+      fits = record { carries = f; waiting = x.numbers_small };
     }
 
 -- ---- what a call does to the receiving half and its pool
 
 -- a datagram: nothing is applied unless all of it passes
-abbrev pub receiverTakes : ℕ → Receiver → Parsed → Receiver
-receiverTakes m x (Parsed.refused r) = x
-receiverTakes m x (Parsed.segments gs) = allByReceiving m x gs
+abbrev pub receiver_takes : ℕ → Receiver → Parsed → Receiver
+receiver_takes m x (Parsed.refused r) = x
+receiver_takes m x (Parsed.segments gs) = all_by_receiving m x gs
 
 -- a flush clears the acks and the wish to tell
-abbrev pub receiverFlushed : Receiver → Receiver
-receiverFlushed x = record { half = withNotes x.half [] false; pool = x.pool }
+abbrev pub receiver_flushed : Receiver → Receiver
+receiver_flushed x = record { half = with_notes x.half [] false; pool = x.pool }
 
 -- a read takes a message that is ready and fits its buffer
-abbrev pub receiverReads : Receiver → ℕ → Receiver
-receiverReads x room = cond (readable x.half.ready) (cond (leb (messageSize x.half) room) (readFrom x) x) x
+abbrev pub receiver_reads : Receiver → ℕ → Receiver
+receiver_reads x room = cond (readable x.half.ready) (cond (leb (message_size x.half) room) (read_from x) x) x
 
 -- a send and a check do not touch them; by the schedule k an update flushes, or leaves them
-abbrev pub receiverAfter : Settings → Schedule → Receiver → Call → Receiver
-receiverAfter c k x (Call.send m) = x
-receiverAfter c k x (Call.takeIn d) = receiverTakes (mss c) x (parse c.conv (mss c) d)
-receiverAfter c k x (Call.flush t) = receiverFlushed x
-receiverAfter c k x (Call.read room) = receiverReads x room
-receiverAfter c k x (Call.update t) = cond (updated k t c.interval).flushes (receiverFlushed x) x
-receiverAfter c k x (Call.check t) = x
+abbrev pub receiver_after : Settings → Schedule → Receiver → Call → Receiver
+receiver_after c k x (Call.send m) = x
+receiver_after c k x (Call.take_in d) = receiver_takes (mss c) x (parse c.conv (mss c) d)
+receiver_after c k x (Call.flush t) = receiver_flushed x
+receiver_after c k x (Call.read room) = receiver_reads x room
+receiver_after c k x (Call.update t) = cond (updated k t c.interval).flushes (receiver_flushed x) x
+receiver_after c k x (Call.check t) = x
 
-take-receiver : (s : Station) (d : List ℕ)
-    → receiverOf (own s (Call.takeIn d)).station ≡ receiverAfter s.state.settings s.state.schedule (receiverOf s) (Call.takeIn d)
+take_receiver : (s : Station) (d : List ℕ)
+    → receiver_of (own s (Call.take_in d)).station ≡ receiver_after s.state.settings s.state.schedule (receiver_of s) (Call.take_in d)
 unfolding input applied
-take-receiver s d = go (parse s.state.settings.conv (mss s.state.settings) d)
+take_receiver s d = go (parse s.state.settings.conv (mss s.state.settings) d)
   where
-    go : (p : Parsed) → receiverOf (afterTakeIn s (taking s.state s.receivePool p)).station ≡ receiverTakes
-        (mss s.state.settings) (receiverOf s) p
+    go : (p : Parsed) → receiver_of (after_take_in s (taking s.state s.receive_pool p)).station ≡ receiver_takes
+        (mss s.state.settings) (receiver_of s) p
     go (Parsed.refused r) = refl
     go (Parsed.segments gs) = refl
 
-read-receiver : (s : Station) (room : ℕ) → receiverOf (own s (Call.read room)).station ≡ receiverReads (receiverOf s) room
+read_receiver : (s : Station) (room : ℕ) → receiver_of (own s (Call.read room)).station ≡ receiver_reads (receiver_of s) room
 unfolding reading
-read-receiver s room = go (readable s.state.receiving.ready) refl (leb (messageSize s.state.receiving) room) refl
+read_receiver s room = go (readable s.state.receiving.ready) refl (leb (message_size s.state.receiving) room) refl
   where
-    go : (a : Bool) → readable s.state.receiving.ready ≡ a → (b : Bool) → leb (messageSize s.state.receiving) room ≡ b
-        → receiverOf (own s (Call.read room)).station ≡ receiverReads (receiverOf s) room
+    go : (a : Bool) → readable s.state.receiving.ready ≡ a → (b : Bool) → leb (message_size s.state.receiving) room ≡ b
+        → receiver_of (own s (Call.read room)).station ≡ receiver_reads (receiver_of s) room
     go true e true f = rw (e, f)
     go true e false f = rw (e, f)
     go false e b f = rw e
 
-update-receiver : (s : Station) (t : ℕ)
-    → receiverOf (own s (Call.update t)).station ≡ receiverAfter s.state.settings s.state.schedule (receiverOf s) (Call.update t)
+update_receiver : (s : Station) (t : ℕ)
+    → receiver_of (own s (Call.update t)).station ≡ receiver_after s.state.settings s.state.schedule (receiver_of s) (Call.update t)
 unfolding updating flushing
-update-receiver s t = go (updated s.state.schedule t s.state.settings.interval).flushes refl
+update_receiver s t = go (updated s.state.schedule t s.state.settings.interval).flushes refl
   where
     go : (b : Bool) → (updated s.state.schedule t s.state.settings.interval).flushes ≡ b
-        → receiverOf (own s (Call.update t)).station
-        ≡ receiverAfter s.state.settings s.state.schedule (receiverOf s) (Call.update t)
+        → receiver_of (own s (Call.update t)).station
+        ≡ receiver_after s.state.settings s.state.schedule (receiver_of s) (Call.update t)
     go true e = rw e
     go false e = rw e
 
-pub own-receiver : (s : Station) (x : Call)
-    → receiverOf (own s x).station ≡ receiverAfter s.state.settings s.state.schedule (receiverOf s) x
+pub own_receiver : (s : Station) (x : Call)
+    → receiver_of (own s x).station ≡ receiver_after s.state.settings s.state.schedule (receiver_of s) x
 unfolding flushing
-own-receiver s (Call.send m) =
-    sending-cases (λ (y : Outcome Sends). receiverOf (afterSend s y).station ≡ receiverOf s) s.state s.sendPool m (λ r. refl)
+own_receiver s (Call.send m) =
+    sending_cases (λ (y : Outcome Sends). receiver_of (after_send s y).station ≡ receiver_of s) s.state s.send_pool m (λ r. refl)
     (λ ok. refl)
-own-receiver s (Call.takeIn d) = take-receiver s d
-own-receiver s (Call.flush t) = refl
-own-receiver s (Call.read room) = read-receiver s room
-own-receiver s (Call.update t) = update-receiver s t
-own-receiver s (Call.check t) = refl
+own_receiver s (Call.take_in d) = take_receiver s d
+own_receiver s (Call.flush t) = refl
+own_receiver s (Call.read room) = read_receiver s room
+own_receiver s (Call.update t) = update_receiver s t
+own_receiver s (Call.check t) = refl
 
 -- ---- the lent lengths stay as they are
 
 -- the receive pool is as long as before
-pub own-receive-pool : (s : Station) (x : Call) → length (own s x).station.receivePool ≡ length s.receivePool
+pub own_receive_pool : (s : Station) (x : Call) → length (own s x).station.receive_pool ≡ length s.receive_pool
 unfolding applied flushing
-own-receive-pool s =
-    own-cases (λ (x : Call) (y : Stepped). length y.station.receivePool ≡ length s.receivePool) s
+own_receive_pool s =
+    own_cases (λ (x : Call) (y : Stepped). length y.station.receive_pool ≡ length s.receive_pool) s
     (λ x r. refl)
     (λ m ok. refl)
-    (λ d gs e. took-pool (mss s.state.settings) gs (receiverOf s))
+    (λ d gs e. took_pool (mss s.state.settings) gs (receiver_of s))
     (λ t. refl)
     (λ room. refl)
     (λ t. refl)
     (λ t. refl)
     (λ t. refl)
 
-pub own-lent : (s : Station) (x : Call) → (own s x).station.lent ≡ s.lent
-own-lent s =
-    own-cases (λ (x : Call) (y : Stepped). y.station.lent ≡ s.lent) s (λ x r. refl) (λ m ok. refl) (λ d gs e. refl) (λ t. refl)
+pub own_lent : (s : Station) (x : Call) → (own s x).station.lent ≡ s.lent
+own_lent s =
+    own_cases (λ (x : Call) (y : Stepped). y.station.lent ≡ s.lent) s (λ x r. refl) (λ m ok. refl) (λ d gs e. refl) (λ t. refl)
     (λ room. refl)
     (λ t. refl) (λ t. refl) (λ t. refl)
 
-pub own-lengths : (s : Station) (x : Call) → lengthsOf (own s x).station ≡ lengthsOf s
-own-lengths s x = λ i. record {
-  send = own-send-pool s x i;
-  receive = own-receive-pool s x i;
-  table = (own-lent s x i).table;
-  acks = (own-lent s x i).ackList;
+pub own_lengths : (s : Station) (x : Call) → lengths_of (own s x).station ≡ lengths_of s
+own_lengths s x = λ i. record {
+  send = own_send_pool s x i;
+  receive = own_receive_pool s x i;
+  table = (own_lent s x i).table;
+  acks = (own_lent s x i).ack_list;
 }
 
 -- ---- the receiving half stays in order
 
-takes-good : (m : ℕ) (x : Receiver) (p : Parsed) → Each (SegmentFits m) p → Good m x → Good m (receiverTakes m x p)
-takes-good m x (Parsed.refused r) f g = g
-takes-good m x (Parsed.segments gs) f g = (took-all m gs x f g).good
+takes_good : (m : ℕ) (x : Receiver) (p : Parsed) → Each (SegmentFits m) p → Good m x → Good m (receiver_takes m x p)
+takes_good m x (Parsed.refused r) f g = g
+takes_good m x (Parsed.segments gs) f g = (took_all m gs x f g).good
 
-reads-good : (m : ℕ) (x : Receiver) (room : ℕ) → Good m x → Good m (receiverReads x room)
-reads-good m x room g = go (readable x.half.ready) (leb (messageSize x.half) room)
+reads_good : (m : ℕ) (x : Receiver) (room : ℕ) → Good m x → Good m (receiver_reads x room)
+reads_good m x room g = go (readable x.half.ready) (leb (message_size x.half) room)
   where
-    go : (a b : Bool) → Good m (cond a (cond b (readFrom x) x) x)
-    go true true = read-good m x g
+    go : (a b : Bool) → Good m (cond a (cond b (read_from x) x) x)
+    go true true = read_good m x g
     go true false = g
     go false b = g
 
-flushed-good : (m : ℕ) (x : Receiver) → Good m x → Good m (receiverFlushed x)
-flushed-good m x g = record { settles = g.settles; few-acks = zero-le }
+flushed_good : (m : ℕ) (x : Receiver) → Good m x → Good m (receiver_flushed x)
+flushed_good m x g = record { settles = g.settles; few_acks_lem = zero-le }
 
-after-good : (c : Settings) (k : Schedule) (x : Receiver) (call : Call) → CallFits call → Good (mss c) x
-    → Good (mss c) (receiverAfter c k x call)
-after-good c k x (Call.send m) f g = g
-after-good c k x (Call.takeIn d) f g = takes-good (mss c) x (parse c.conv (mss c) d) (parse-fits c.conv (mss c) d f) g
-after-good c k x (Call.flush t) f g = flushed-good (mss c) x g
-after-good c k x (Call.read room) f g = reads-good (mss c) x room g
-after-good c k x (Call.update t) f g = either_way (Good (mss c)) (updated k t c.interval).flushes (flushed-good (mss c) x g) g
-after-good c k x (Call.check t) f g = g
+after_good : (c : Settings) (k : Schedule) (x : Receiver) (call : Call) → CallFits call → Good (mss c) x
+    → Good (mss c) (receiver_after c k x call)
+after_good c k x (Call.send m) f g = g
+after_good c k x (Call.take_in d) f g = takes_good (mss c) x (parse c.conv (mss c) d) (parse_fits c.conv (mss c) d f) g
+after_good c k x (Call.flush t) f g = flushed_good (mss c) x g
+after_good c k x (Call.read room) f g = reads_good (mss c) x room g
+after_good c k x (Call.update t) f g = either_way (Good (mss c)) (updated k t c.interval).flushes (flushed_good (mss c) x g) g
+after_good c k x (Call.check t) f g = g
 
 -- EVERY CALL leaves the receiving half in order, whatever bytes it takes in
-pub receiving-stays : (c : Settings) (s : Station) (x : Call) → CallFits x → ReceivingInOrder c s → ReceivingInOrder c (own s x).station
-receiving-stays c s x f o =
+pub receiving_stays : (c : Settings) (s : Station) (x : Call) → CallFits x → ReceivingInOrder c s → ReceivingInOrder c (own s x).station
+receiving_stays c s x f o =
     let k = s.state.schedule in
-    let d : receiverOf (own s x).station ≡ receiverAfter c k (receiverOf s) x =
-    own-receiver s x ∙ ap (λ (y : Settings). receiverAfter y k (receiverOf s) x) o.settings in
-    in_order c (own s x).station (own-settings s x ∙ o.settings) (carry-stays s x f o.fits.carries)
-    (rw d (after-good c k (receiverOf s) x f (good-in c s o)))
+    let d : receiver_of (own s x).station ≡ receiver_after c k (receiver_of s) x =
+    own_receiver s x ∙ ap (λ (y : Settings). receiver_after y k (receiver_of s) x) o.settings in
+    in_order c (own s x).station (own_settings s x ∙ o.settings) (carry_stays s x f o.fits.carries)
+    (rw d (after_good c k (receiver_of s) x f (good_in c s o)))
 
 -- ---- the opened state
 
 -- parts that are long enough for a flush are long enough for every call
-pub flush-enough : (m : ℕ) (n : Lengths) (output lengths : ℕ) → enoughToFlush m n output lengths ≡ true → enough m n ≡ true
-unfolding enoughToFlush
-flush-enough m n output lengths e = (and_parts (enough m n) _ (and_parts (enough m n && leb outputLeast output) _ e).0).0
+pub flush_enough : (m : ℕ) (n : Lengths) (output lengths : ℕ) → enough_to_flush m n output lengths ≡ true → enough m n ≡ true
+unfolding enough_to_flush
+flush_enough m n output lengths e = (and_parts (enough m n) _ (and_parts (enough m n && leb output_least output) _ e).0).0
 
-enough-receive : (m : ℕ) (n : Lengths) → enough m n ≡ true → receiveSlots * m ≤ n.receive
+enough_receive : (m : ℕ) (n : Lengths) → enough m n ≡ true → receive_slots * m ≤ n.receive
 unfolding enough
-enough-receive m n e = leb-true _ _ (and_parts (leb (sendSlots * m) n.send) _ (and_parts _ _ (and_parts _ _ e).0).0).1
+enough_receive m n e = leb-true _ _ (and_parts (leb (send_slots * m) n.send) _ (and_parts _ _ (and_parts _ _ e).0).0).1
 
-pub opened-receiving : (c : Settings) (s : Station) → Opened c s → ReceivingInOrder c s
-unfolding opened ascending startsAt
-opened-receiving c s p =
+pub opened_receiving : (c : Settings) (s : Station) → Opened c s → ReceivingInOrder c s
+unfolding opened ascending starts_at
+opened_receiving c s p =
     in_order c s (ap (λ (x : State). x.settings) p.state) (rw p.state (record { next = omega arith; acks = tt }))
     (rw p.state
     (record {
       settles = record {
         sound = record {
-          pool-long = enough-receive (mss c) (lengthsOf s)
-              (flush-enough (mss c) (lengthsOf s) s.lent.output s.lent.lengths p.long);
+          pool_long = enough_receive (mss c) (lengths_of s)
+              (flush_enough (mss c) (lengths_of s) s.lent.output s.lent.lengths p.long);
           held = tt;
-          slots-once = refl;
-          few-ready = zero-le;
+          slots_once = refl;
+          few_ready = zero-le;
           next_small = omega arith;
-          numbers-small = tt;
+          numbers_small = tt;
           window = refl;
         };
         settled = refl;
       };
-      few-acks = zero-le;
+      few_acks_lem = zero-le;
     }))
 
 -- ---- lists of calls
 
 -- after calls that pass the checks
-pub receiving-stays-all : (c : Settings) (xs : List Call) (s : Station) → All CallFits xs → Passing s xs → ReceivingInOrder c s
+pub receiving_stays_all : (c : Settings) (xs : List Call) (s : Station) → All CallFits xs → Passing s xs → ReceivingInOrder c s
     → ReceivingInOrder c (after s xs)
 unfolding after
-receiving-stays-all c [] s f p o = o
-receiving-stays-all c (x ∷ xs) s f p o =
+receiving_stays_all c [] s f p o = o
+receiving_stays_all c (x ∷ xs) s f p o =
     subst (ReceivingInOrder c) (sym (after_first s x xs p))
-    (receiving-stays-all c xs (own s x).station f.1 p.2 (receiving-stays c s x f.0 o))
+    (receiving_stays_all c xs (own s x).station f.1 p.2 (receiving_stays c s x f.0 o))
 
 -- the lent lengths are as at first
-pub after-lengths : (xs : List Call) (s : Station) → Passing s xs → lengthsOf (after s xs) ≡ lengthsOf s
+pub after_lengths : (xs : List Call) (s : Station) → Passing s xs → lengths_of (after s xs) ≡ lengths_of s
 unfolding after
-after-lengths [] s p = refl
-after-lengths (x ∷ xs) s p = ap lengthsOf (after_first s x xs p) ∙ after-lengths xs (own s x).station p.2 ∙ own-lengths s x
+after_lengths [] s p = refl
+after_lengths (x ∷ xs) s p = ap lengths_of (after_first s x xs p) ∙ after_lengths xs (own s x).station p.2 ∙ own_lengths s x

@@ -2,26 +2,26 @@
 -- Assumes nothing.
 use Rattle.std.specs.Prelude.{◌≡◌, true, ℕ, ◌*◌, ◌≤◌}
 use Rattle.std.proofs.Common.{leb-true}
-use Rattle.protocol.specs.Protocol.{sendSlots, mtuLeast, mtuMost}
+use Rattle.protocol.specs.Protocol.{send_slots, mtu_least, mtu_most}
 use Rattle.protocol.specs.Ranges.{in_range}
 use Rattle.protocol.specs.declared.Settings.{Settings}
-use Rattle.sizes.specs.Sizes.{enough, enoughToFlush}
+use Rattle.sizes.specs.Sizes.{enough, enough_to_flush}
 use Rattle.sizes.specs.declared.Lengths.{Lengths}
 use Rattle.session.specs.Decides.{and_parts}
-use Rattle.session.specs.IsValid.{settings-decide}
+use Rattle.session.specs.IsValid.{settings_decide}
 
 -- settings in range have an mtu of 50 to 1,400
 pub record MtuInRange (c : Settings) : Type 0 where
-  pub least : mtuLeast ≤ c.mtu
-  pub most : c.mtu ≤ mtuMost
+  pub least : mtu_least ≤ c.mtu
+  pub most : c.mtu ≤ mtu_most
 
-pub mtu-in-range : (c : Settings) → in_range c ≡ true → MtuInRange c
-mtu-in-range c e =
-    let r = (settings-decide c).holds e in
-    record { least = r.mtu-least; most = r.mtu-most }
+pub mtu_in_range : (c : Settings) → in_range c ≡ true → MtuInRange c
+mtu_in_range c e =
+    let r = (settings_decide c).holds e in
+    record { least = r.mtu_least_lem; most = r.mtu_most_lem }
 
 -- a flush's lent parts: a send pool of 128 x mss bytes
-pub enough-pool : (m : ℕ) (n : Lengths) (output lengths : ℕ) → enoughToFlush m n output lengths ≡ true → sendSlots * m ≤ n.send
-unfolding enoughToFlush enough
-enough-pool m n output lengths e =
-    leb-true (sendSlots * m) n.send (and_parts _ _ (and_parts _ _ (and_parts _ _ (and_parts _ _ (and_parts _ _ e).0).0).0).0).0
+pub enough_pool : (m : ℕ) (n : Lengths) (output lengths : ℕ) → enough_to_flush m n output lengths ≡ true → send_slots * m ≤ n.send
+unfolding enough_to_flush enough
+enough_pool m n output lengths e =
+    leb-true (send_slots * m) n.send (and_parts _ _ (and_parts _ _ (and_parts _ _ (and_parts _ _ (and_parts _ _ e).0).0).0).0).0

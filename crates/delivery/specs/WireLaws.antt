@@ -8,37 +8,37 @@ use Rattle.std.proofs.lemmas.List.{length-map}
 use Rattle.protocol.specs.Protocol.{
   push,
   ack,
-  windowAsk,
-  windowTell,
-  headerSize,
-  fragmentMost,
-  sendSlots,
-  sendWindow,
-  acksMost,
-  outputLeast,
-  lengthsLeast,
-  mtuMost,
+  window_ask,
+  window_tell,
+  header_size,
+  fragment_most,
+  send_slots,
+  send_window,
+  acks_most,
+  output_least,
+  lengths_least,
+  mtu_most,
 }
 use Rattle.protocol.specs.Ranges.{in_range, mss}
 use Rattle.wire.specs.Headers.{encode}
 use Rattle.wire.specs.declared.Header.{Header}
 use Rattle.datagram.specs.declared.Verdict.TheVariants.{Passes}
-use Rattle.datagram.specs.Datagrams.{Segment, ofPush, verdict}
+use Rattle.datagram.specs.Datagrams.{Segment, of_push, verdict}
 use Rattle.datagram.specs.WalkLaws.{Passed}
 use Rattle.datagram.specs.Joined.{Valid}
 use Rattle.lists.specs.declared.Sent.{Sent}
 use Rattle.session.specs.State.{State, Ack}
-use Rattle.session.specs.Flushing.{Carried, carried, control, ackSegment, dataSegment, wished, written, bytesOfSegment, bytesOfSegments}
+use Rattle.session.specs.Flushing.{Carried, carried, control, ack_segment, data_segment, wished, written, bytes_of_segment, bytes_of_segments}
 use Rattle.session.specs.Decides.{All}
-use Rattle.session.specs.AllLaws.{all_any, all_append, all_right, all-mapped, all-unmapped, all_weaker}
+use Rattle.session.specs.AllLaws.{all_any, all_append, all_right, all_mapped, all_unmapped, all_weaker}
 use Rattle.delivery.specs.StateRange.{AckFits, CarryFits}
-use Rattle.delivery.specs.SizeLaws.{MtuInRange, mtu-in-range}
-use Rattle.delivery.specs.PackingLaws.{length-segment, length-bytes-append}
+use Rattle.delivery.specs.SizeLaws.{MtuInRange, mtu_in_range}
+use Rattle.delivery.specs.PackingLaws.{length_segment, length_bytes_append}
 
 -- ---- a header that passes
 
-of-push : (h : Header) (b : Bool) → (h.cmd ≡ push → b ≡ true) → ofPush h b ≡ true
-of-push h b f = go (eqb h.cmd push) refl
+of_push_lem : (h : Header) (b : Bool) → (h.cmd ≡ push → b ≡ true) → of_push h b ≡ true
+of_push_lem h b f = go (eqb h.cmd push) refl
   where
     go : (t : Bool) → eqb h.cmd push ≡ t → cond t b true ≡ true
     go true e = f (eqb-true h.cmd push e)
@@ -50,10 +50,10 @@ passes conv m room h p =
     rw (
       eq-eqb h.conv conv p.conversation,
       le-leb h.len room p.inside,
-      le-leb push h.cmd p.command-least,
-      le-leb h.cmd windowTell p.command-most,
-      of-push h (leb h.len m) (λ e. le-leb h.len m (p.payload e)),
-      of-push h (leb h.frg fragmentMost) (λ e. le-leb h.frg fragmentMost (p.fragment e)),
+      le-leb push h.cmd p.command_least,
+      le-leb h.cmd window_tell p.command_most,
+      of_push_lem h (leb h.len m) (λ e. le-leb h.len m (p.payload e)),
+      of_push_lem h (leb h.frg fragment_most) (λ e. le-leb h.frg fragment_most (p.fragment e)),
     )
 
 -- ---- the segments of a flush
@@ -67,45 +67,45 @@ pub record CarriedFits (c : Carried) : Type 0 where
 -- an outstanding segment that can be written
 pub record DataFits (m : ℕ) (x : Sent) : Type 0 where
   pub len : x.held.len ≤ m
-  pub fragment : x.held.fragment ≤ fragmentMost
-  pub slot : x.held.slot < sendSlots
+  pub fragment : x.held.fragment ≤ fragment_most
+  pub slot : x.held.slot < send_slots
   pub number : x.record.number < 2 ^ 32
 
-control-valid : (c : Carried) (m cmd sn ts : ℕ) →
+control_valid : (c : Carried) (m cmd sn ts : ℕ) →
     CarriedFits c →
     push < cmd →
-    cmd ≤ windowTell →
+    cmd ≤ window_tell →
     sn < 2 ^ 32 →
     ts < 2 ^ 32 →
     Valid c.conv m (control c cmd sn ts)
-control-valid c m cmd sn ts f low high n k = record {
+control_valid c m cmd sn ts f low high n k = record {
   fits = record { conv = f.conv; cmd = omega arith; frg = omega arith; wnd = f.wnd; ts = k; sn = n; una = f.una; len = omega arith };
   len = refl;
   passes = passes c.conv m 0 (control c cmd sn ts).header
       (record {
         conversation = refl;
         inside = zero-le;
-        command-least = omega arith;
-        command-most = high;
+        command_least = omega arith;
+        command_most = high;
         payload = λ e. zero-le;
         fragment = λ e. zero-le;
       });
 }
 
-data-length : (m : ℕ) (pool : List ℕ) (x : Sent) →
+data_length : (m : ℕ) (pool : List ℕ) (x : Sent) →
     DataFits m x →
-    sendSlots * m ≤ length pool →
+    send_slots * m ≤ length pool →
     length (take x.held.len (drop (x.held.slot * m) pool)) ≡ x.held.len
-data-length m pool x f long = simp (length-take, length-drop) (omega (arith, f.len, mul-le-mul_right m f.slot))
+data_length m pool x f long = simp (length-take, length-drop) (omega (arith, f.len, mul-le-mul_right m f.slot))
 
-data-valid : (c : Carried) (m t : ℕ) (pool : List ℕ) (x : Sent) →
+data_valid : (c : Carried) (m t : ℕ) (pool : List ℕ) (x : Sent) →
     CarriedFits c →
     m < 2 ^ 32 →
     t < 2 ^ 32 →
-    sendSlots * m ≤ length pool →
+    send_slots * m ≤ length pool →
     DataFits m x →
-    Valid c.conv m (dataSegment c m t pool x)
-data-valid c m t pool x f k j long d = record {
+    Valid c.conv m (data_segment c m t pool x)
+data_valid c m t pool x f k j long d = record {
   fits = record {
     conv = f.conv;
     cmd = omega arith;
@@ -116,13 +116,13 @@ data-valid c m t pool x f k j long d = record {
     una = f.una;
     len = omega (arith, d.len);
   };
-  len = sym (data-length m pool x d long);
-  passes = passes c.conv m x.held.len (dataSegment c m t pool x).header
+  len = sym (data_length m pool x d long);
+  passes = passes c.conv m x.held.len (data_segment c m t pool x).header
       (record {
         conversation = refl;
         inside = omega arith;
-        command-least = omega arith;
-        command-most = omega arith;
+        command_least = omega arith;
+        command_most = omega arith;
         payload = λ e. d.len;
         fragment = λ e. d.fragment;
       });
@@ -131,58 +131,58 @@ data-valid c m t pool x f k j long d = record {
 -- ---- what is written: all acks, an ask, a tell, data
 
 module _ (s : State) (t : ℕ) (pool : List ℕ) (ask : Bool) (sent : List Sent) where
-  abbrev acksOf : List Segment
-  acksOf = map (ackSegment (carried s)) s.receiving.acks
+  abbrev acks_of : List Segment
+  acks_of = map (ack_segment (carried s)) s.receiving.acks
 
-  abbrev askOf : List Segment
-  askOf = wished ask (control (carried s) windowAsk 0 0)
+  abbrev ask_of : List Segment
+  ask_of = wished ask (control (carried s) window_ask 0 0)
 
-  abbrev tellOf : List Segment
-  tellOf = wished s.receiving.tell (control (carried s) windowTell 0 0)
+  abbrev tell_of : List Segment
+  tell_of = wished s.receiving.tell (control (carried s) window_tell 0 0)
 
   abbrev data_of : List Segment
-  data_of = map (dataSegment (carried s) (mss s.settings) t pool) sent
+  data_of = map (data_segment (carried s) (mss s.settings) t pool) sent
 
-  pub written-parts : written s t pool ask sent ≡ acksOf ++ (askOf ++ (tellOf ++ data_of))
+  pub written_parts : written s t pool ask sent ≡ acks_of ++ (ask_of ++ (tell_of ++ data_of))
   unfolding written
-  written-parts = refl
+  written_parts = refl
 
   module _ (P : Segment → Type 0) where
-    all-wished : (b : Bool) (g : Segment) → P g → All P (wished b g)
-    all-wished true g h = (h, tt)
-    all-wished false g h = tt
+    all_wished : (b : Bool) (g : Segment) → P g → All P (wished b g)
+    all_wished true g h = (h, tt)
+    all_wished false g h = tt
 
     -- of each segment, by its kind
-    pub all-written :
-        All (λ (a : Ack). P (ackSegment (carried s) a)) s.receiving.acks →
-        P (control (carried s) windowAsk 0 0) →
-        P (control (carried s) windowTell 0 0) →
-        All (λ (x : Sent). P (dataSegment (carried s) (mss s.settings) t pool x)) sent →
+    pub all_written :
+        All (λ (a : Ack). P (ack_segment (carried s) a)) s.receiving.acks →
+        P (control (carried s) window_ask 0 0) →
+        P (control (carried s) window_tell 0 0) →
+        All (λ (x : Sent). P (data_segment (carried s) (mss s.settings) t pool x)) sent →
         All P (written s t pool ask sent)
-    all-written acks asks tells pushes =
-        rw written-parts
-        (all_append P acksOf (askOf ++ (tellOf ++ data_of)) (all-mapped P (ackSegment (carried s)) s.receiving.acks acks)
-        (all_append P askOf (tellOf ++ data_of) (all-wished ask (control (carried s) windowAsk 0 0) asks)
-        (all_append P tellOf data_of (all-wished s.receiving.tell (control (carried s) windowTell 0 0) tells)
-        (all-mapped P (dataSegment (carried s) (mss s.settings) t pool) sent pushes))))
+    all_written acks asks tells pushes =
+        rw written_parts
+        (all_append P acks_of (ask_of ++ (tell_of ++ data_of)) (all_mapped P (ack_segment (carried s)) s.receiving.acks acks)
+        (all_append P ask_of (tell_of ++ data_of) (all_wished ask (control (carried s) window_ask 0 0) asks)
+        (all_append P tell_of data_of (all_wished s.receiving.tell (control (carried s) window_tell 0 0) tells)
+        (all_mapped P (data_segment (carried s) (mss s.settings) t pool) sent pushes))))
 
     -- and of the data alone
-    pub data-written : All P (written s t pool ask sent) → All (λ (x : Sent). P (dataSegment (carried s) (mss s.settings) t pool x)) sent
-    data-written a =
-        all-unmapped P (dataSegment (carried s) (mss s.settings) t pool) sent
-        (all_right P tellOf data_of (all_right P askOf (tellOf ++ data_of)
-        (all_right P acksOf (askOf ++ (tellOf ++ data_of)) (rw written-parts at a))))
+    pub data_written : All P (written s t pool ask sent) → All (λ (x : Sent). P (data_segment (carried s) (mss s.settings) t pool x)) sent
+    data_written a =
+        all_unmapped P (data_segment (carried s) (mss s.settings) t pool) sent
+        (all_right P tell_of data_of (all_right P ask_of (tell_of ++ data_of)
+        (all_right P acks_of (ask_of ++ (tell_of ++ data_of)) (rw written_parts at a))))
 
 -- segments of at most n bytes each
-bytes_most : (n : ℕ) (gs : List Segment) → All (λ (g : Segment). length (bytesOfSegment g) ≤ n) gs
-    → length (bytesOfSegments gs) ≤ n * length gs
-unfolding bytesOfSegments
+bytes_most : (n : ℕ) (gs : List Segment) → All (λ (g : Segment). length (bytes_of_segment g) ≤ n) gs
+    → length (bytes_of_segments gs) ≤ n * length gs
+unfolding bytes_of_segments
 bytes_most n [] a = zero-le
 bytes_most n (g ∷ gs) a = simp length-append (omega (arith, a.0, bytes_most n gs a.1, length-append (encode g.header) g.payload))
 
-wished-few : (b : Bool) (g : Segment) → length (wished b g) ≤ 1
-wished-few true g = omega arith
-wished-few false g = omega arith
+wished_few : (b : Bool) (g : Segment) → length (wished b g) ≤ 1
+wished_few true g = omega arith
+wished_few false g = omega arith
 
 module _ (s : State) (t : ℕ) (pool : List ℕ) (ask : Bool) (sent : List Sent) (range : in_range s.settings ≡ true) where
   abbrev c : Carried
@@ -192,101 +192,101 @@ module _ (s : State) (t : ℕ) (pool : List ℕ) (ask : Bool) (sent : List Sent)
   m = mss s.settings
 
   mtu : MtuInRange s.settings
-  mtu = mtu-in-range s.settings range
+  mtu = mtu_in_range s.settings range
 
   module _ (conv32 : s.settings.conv < 2 ^ 32) (w : CarryFits s.receiving) (time : t < 2 ^ 32)
-      (long : sendSlots * mss s.settings ≤ length pool) (fit : All (DataFits (mss s.settings)) sent) where
-    carried-fits : CarriedFits (carried s)
-    carried-fits = record { conv = conv32; wnd = omega arith; una = w.next }
+      (long : send_slots * mss s.settings ≤ length pool) (fit : All (DataFits (mss s.settings)) sent) where
+    carried_fits : CarriedFits (carried s)
+    carried_fits = record { conv = conv32; wnd = omega arith; una = w.next }
 
-    pub written-valid : All (Valid s.settings.conv (mss s.settings)) (written s t pool ask sent)
-    written-valid =
-        all-written s t pool ask sent (Valid s.settings.conv m)
-        (all_weaker AckFits (λ (a : Ack). Valid s.settings.conv m (ackSegment c a))
-        (λ a f. control-valid c m ack a.sn a.ts carried-fits (omega arith) (omega arith) f.sn f.ts)
+    pub written_valid : All (Valid s.settings.conv (mss s.settings)) (written s t pool ask sent)
+    written_valid =
+        all_written s t pool ask sent (Valid s.settings.conv m)
+        (all_weaker AckFits (λ (a : Ack). Valid s.settings.conv m (ack_segment c a))
+        (λ a f. control_valid c m ack a.sn a.ts carried_fits (omega arith) (omega arith) f.sn f.ts)
         s.receiving.acks
         w.acks)
-        (control-valid c m windowAsk 0 0 carried-fits (omega arith) (omega arith) (omega arith) (omega arith))
-        (control-valid c m windowTell 0 0 carried-fits (omega arith) (omega arith) (omega arith) (omega arith))
-        (all_weaker (DataFits m) (λ (x : Sent). Valid s.settings.conv m (dataSegment c m t pool x))
-        (λ x f. data-valid c m t pool x carried-fits (omega (arith, mtu.most)) time long f)
+        (control_valid c m window_ask 0 0 carried_fits (omega arith) (omega arith) (omega arith) (omega arith))
+        (control_valid c m window_tell 0 0 carried_fits (omega arith) (omega arith) (omega arith) (omega arith))
+        (all_weaker (DataFits m) (λ (x : Sent). Valid s.settings.conv m (data_segment c m t pool x))
+        (λ x f. data_valid c m t pool x carried_fits (omega (arith, mtu.most)) time long f)
         sent
         fit)
 
   -- how many they are, and how long, whatever numbers they carry
-  module _ (fewAcks : length s.receiving.acks ≤ acksMost) (short : All (λ (x : Sent). x.held.len ≤ mss s.settings) sent)
-      (few : length sent ≤ sendWindow) where
-    control-short : (cmd sn ts : ℕ) → length (bytesOfSegment (control c cmd sn ts)) ≤ headerSize
-    control-short cmd sn ts = omega (arith, length-segment (control c cmd sn ts))
+  module _ (few_acks : length s.receiving.acks ≤ acks_most) (short : All (λ (x : Sent). x.held.len ≤ mss s.settings) sent)
+      (few : length sent ≤ send_window) where
+    control_short : (cmd sn ts : ℕ) → length (bytes_of_segment (control c cmd sn ts)) ≤ header_size
+    control_short cmd sn ts = omega (arith, length_segment (control c cmd sn ts))
 
-    data-short : All (λ (x : Sent). length (bytesOfSegment (dataSegment c m t pool x)) ≤ s.settings.mtu) sent
-    data-short =
-        all_weaker (λ (x : Sent). x.held.len ≤ m) (λ (x : Sent). length (bytesOfSegment (dataSegment c m t pool x)) ≤ s.settings.mtu)
+    data_short : All (λ (x : Sent). length (bytes_of_segment (data_segment c m t pool x)) ≤ s.settings.mtu) sent
+    data_short =
+        all_weaker (λ (x : Sent). x.held.len ≤ m) (λ (x : Sent). length (bytes_of_segment (data_segment c m t pool x)) ≤ s.settings.mtu)
         (λ x f. omega (
           arith,
-          length-segment (dataSegment c m t pool x),
+          length_segment (data_segment c m t pool x),
           length-take x.held.len (drop (x.held.slot * m) pool),
           mtu.least,
         )) sent short
 
     -- no segment is longer than mtu
-    pub written-short : All (λ (g : Segment). length (bytesOfSegment g) ≤ s.settings.mtu) (written s t pool ask sent)
-    written-short =
-        all-written s t pool ask sent (λ (g : Segment). length (bytesOfSegment g) ≤ s.settings.mtu)
-        (all_any (λ (a : Ack). length (bytesOfSegment (ackSegment c a)) ≤ s.settings.mtu)
-        (λ a. omega (arith, control-short ack a.sn a.ts, mtu.least)) s.receiving.acks)
-        (omega (arith, control-short windowAsk 0 0, mtu.least))
-        (omega (arith, control-short windowTell 0 0, mtu.least))
-        data-short
+    pub written_short : All (λ (g : Segment). length (bytes_of_segment g) ≤ s.settings.mtu) (written s t pool ask sent)
+    written_short =
+        all_written s t pool ask sent (λ (g : Segment). length (bytes_of_segment g) ≤ s.settings.mtu)
+        (all_any (λ (a : Ack). length (bytes_of_segment (ack_segment c a)) ≤ s.settings.mtu)
+        (λ a. omega (arith, control_short ack a.sn a.ts, mtu.least)) s.receiving.acks)
+        (omega (arith, control_short window_ask 0 0, mtu.least))
+        (omega (arith, control_short window_tell 0 0, mtu.least))
+        data_short
 
     -- 256 acks, an ask, a tell and 32 data segments at most
-    pub written-few : length (written s t pool ask sent) ≤ lengthsLeast
-    written-few =
-        rw (written-parts s t pool ask sent)
+    pub written_few : length (written s t pool ask sent) ≤ lengths_least
+    written_few =
+        rw (written_parts s t pool ask sent)
         (simp (length-append, length-map)
-        (omega (arith, wished-few ask (control c windowAsk 0 0), wished-few s.receiving.tell (control c windowTell 0 0))))
+        (omega (arith, wished_few ask (control c window_ask 0 0), wished_few s.receiving.tell (control c window_tell 0 0))))
 
-    pub written-bytes : length (bytesOfSegments (written s t pool ask sent)) ≤ outputLeast
-    written-bytes =
+    pub written_bytes : length (bytes_of_segments (written s t pool ask sent)) ≤ output_least
+    written_bytes =
         rw (
-          written-parts s t pool ask sent,
-          length-bytes-append acks (asks ++ (tells ++ pushes)),
-          length-bytes-append asks (tells ++ pushes),
-          length-bytes-append tells pushes,
+          written_parts s t pool ask sent,
+          length_bytes_append acks (asks ++ (tells ++ pushes)),
+          length_bytes_append asks (tells ++ pushes),
+          length_bytes_append tells pushes,
         )
         (omega (
           arith,
-          bytes_most headerSize acks
-              (all-mapped Control (ackSegment c) s.receiving.acks
-              (all_any (λ (a : Ack). Control (ackSegment c a)) (λ a. control-short ack a.sn a.ts) s.receiving.acks)),
-          bytes_most headerSize asks (all-wished s t pool ask sent Control ask (control c windowAsk 0 0) (control-short windowAsk 0 0)),
-          bytes_most headerSize tells (all-wished s t pool ask sent Control s.receiving.tell (control c windowTell 0 0)
-              (control-short windowTell 0 0)),
-          bytes_most mtuMost pushes
-              (all-mapped (λ (g : Segment). length (bytesOfSegment g) ≤ mtuMost) (dataSegment c m t pool) sent
+          bytes_most header_size acks
+              (all_mapped Control (ack_segment c) s.receiving.acks
+              (all_any (λ (a : Ack). Control (ack_segment c a)) (λ a. control_short ack a.sn a.ts) s.receiving.acks)),
+          bytes_most header_size asks (all_wished s t pool ask sent Control ask (control c window_ask 0 0) (control_short window_ask 0 0)),
+          bytes_most header_size tells (all_wished s t pool ask sent Control s.receiving.tell (control c window_tell 0 0)
+              (control_short window_tell 0 0)),
+          bytes_most mtu_most pushes
+              (all_mapped (λ (g : Segment). length (bytes_of_segment g) ≤ mtu_most) (data_segment c m t pool) sent
               (all_weaker
-              (λ (x : Sent). length (bytesOfSegment (dataSegment c m t pool x)) ≤ s.settings.mtu)
-              (λ (x : Sent). length (bytesOfSegment (dataSegment c m t pool x)) ≤ mtuMost)
+              (λ (x : Sent). length (bytes_of_segment (data_segment c m t pool x)) ≤ s.settings.mtu)
+              (λ (x : Sent). length (bytes_of_segment (data_segment c m t pool x)) ≤ mtu_most)
               (λ x k. omega (arith, mtu.most))
               sent
-              data-short)),
-          length-map s.receiving.acks (ackSegment c),
-          length-map sent (dataSegment c m t pool),
-          wished-few ask (control c windowAsk 0 0),
-          wished-few s.receiving.tell (control c windowTell 0 0),
+              data_short)),
+          length-map s.receiving.acks (ack_segment c),
+          length-map sent (data_segment c m t pool),
+          wished_few ask (control c window_ask 0 0),
+          wished_few s.receiving.tell (control c window_tell 0 0),
         ))
       where
         Control : Segment → Type 0
-        Control g = length (bytesOfSegment g) ≤ headerSize
+        Control g = length (bytes_of_segment g) ≤ header_size
 
         acks : List Segment
-        acks = acksOf s t pool ask sent
+        acks = acks_of s t pool ask sent
 
         asks : List Segment
-        asks = askOf s t pool ask sent
+        asks = ask_of s t pool ask sent
 
         tells : List Segment
-        tells = tellOf s t pool ask sent
+        tells = tell_of s t pool ask sent
 
         pushes : List Segment
         pushes = data_of s t pool ask sent

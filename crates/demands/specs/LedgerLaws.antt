@@ -4,69 +4,69 @@
 -- Assumes nothing.
 use Rattle.std.specs.Prelude.{◌≡◌, refl, true, false, List, ◌^◌, ◌-◌, ◌<◌}
 use Rattle.std.proofs.Common.{sym, ap, ◌∙◌, arith}
-use Rattle.protocol.specs.Ranges.{in_range, mss, isStream}
+use Rattle.protocol.specs.Ranges.{in_range, mss, is_stream}
 use Rattle.protocol.specs.declared.Settings.{Settings}
-use Rattle.session.specs.Calls.{Station, Call, Event, acceptedList}
+use Rattle.session.specs.Calls.{Station, Call, Event, accepted_list}
 use Rattle.session.specs.Decides.{All}
-use Rattle.promises.specs.Parts.{stateIn}
-use Rattle.delivery.specs.PlainReceiver.{segmentsOf}
+use Rattle.promises.specs.Parts.{state_in}
+use Rattle.delivery.specs.PlainReceiver.{segments_of}
 use Rattle.delivery.specs.Hearing.{CallFits}
-use Rattle.delivery.specs.AlwaysValid.{station-always-valid}
+use Rattle.delivery.specs.AlwaysValid.{station_always_valid}
 use Rattle.delivery.specs.Ledger as station
-use Rattle.delivery.specs.Ledger.{usedSlots, Ledger}
+use Rattle.delivery.specs.Ledger.{used_slots, Ledger}
 use Rattle.delivery.specs.LedgerLaws as station-laws
 use Rattle.demands.specs.Steps.{Endpoint, Runs, start, next, SinceOpening}
-use Rattle.demands.specs.Stations.{stationOf}
-use Rattle.demands.specs.Claims.{segmentsAcknowledged, fragmentsAccepted}
-use Rattle.demands.specs.Simulation.{Preserved, preserved-call, step_call}
-use Rattle.demands.specs.RunLaws.{opens-station, opens-preserved, taken, since-opening}
+use Rattle.demands.specs.Stations.{station_of}
+use Rattle.demands.specs.Claims.{segments_acknowledged, fragments_accepted}
+use Rattle.demands.specs.Simulation.{Preserved, preserved_call, step_call}
+use Rattle.demands.specs.RunLaws.{opens_station, opens_preserved, taken, since_opening}
 
 -- what the calls acknowledge is what the station's do
-acknowledged-same : (c : Settings) → in_range c ≡ true → c.conv < 2 ^ 32
+acknowledged_same : (c : Settings) → in_range c ≡ true → c.conv < 2 ^ 32
     → {e e' : Endpoint} {xs : List Call} {events : List Event} (r : Runs e xs events e') → All CallFits xs → Preserved c e
-    → segmentsAcknowledged r ≡ station.stationAcknowledged (stationOf e) xs
-unfolding segmentsAcknowledged station.stationAcknowledged
-acknowledged-same c range conv start fits k = refl
-acknowledged-same c range conv (next e x a e' h r) fits k =
+    → segments_acknowledged r ≡ station.station_acknowledged (station_of e) xs
+unfolding segments_acknowledged station.station_acknowledged
+acknowledged_same c range conv start fits k = refl
+acknowledged_same c range conv (next e x a e' h r) fits k =
     rw (
       step_call c range conv e k x a e' fits.0 h,
-      acknowledged-same c range conv r fits.1 (preserved-call c range conv e k x a e' fits.0 h),
+      acknowledged_same c range conv r fits.1 (preserved_call c range conv e k x a e' fits.0 h),
     )
 
 -- what they accept is what the station's do
-accepted-same : (c : Settings) → in_range c ≡ true → c.conv < 2 ^ 32 →
+accepted_same : (c : Settings) → in_range c ≡ true → c.conv < 2 ^ 32 →
     {e e' : Endpoint} {xs : List Call} {events : List Event} (r : Runs e xs events e') → All CallFits xs → Preserved c e
-    → fragmentsAccepted r ≡ station.stationAccepted (stationOf e) xs
-unfolding fragmentsAccepted station.stationAccepted
-accepted-same c range conv start fits k = refl
-accepted-same c range conv (next e x a e' h r) fits k =
-    let k' = preserved-call c range conv e k x a e' fits.0 h in
-    rw (step_call c range conv e k x a e' fits.0 h, accepted-same c range conv r fits.1 k')
+    → fragments_accepted r ≡ station.station_accepted (station_of e) xs
+unfolding fragments_accepted station.station_accepted
+accepted_same c range conv start fits k = refl
+accepted_same c range conv (next e x a e' h r) fits k =
+    let k' = preserved_call c range conv e k x a e' fits.0 h in
+    rw (step_call c range conv e k x a e' fits.0 h, accepted_same c range conv r fits.1 k')
 
 module _ (c : Settings) (calls : List Call) (events : List Event) (e : Endpoint) (h : SinceOpening c calls events e) where
-  pub ledger : Ledger (stateIn e.link e.parts).sending (fragmentsAccepted h.runs) (segmentsAcknowledged h.runs)
+  pub ledger : Ledger (state_in e.link e.parts).sending (fragments_accepted h.runs) (segments_acknowledged h.runs)
   ledger =
-      let s : Station = stationOf h.first in
-      let o = opens-station c h.first h.opens in
-      let preserved = opens-preserved c h.first h.opens in
+      let s : Station = station_of h.first in
+      let o = opens_station c h.first h.opens in
+      let preserved = opens_preserved c h.first h.opens in
       rw (
-        acknowledged-same c (taken h).range h.conv h.runs h.fits preserved,
-        accepted-same c (taken h).range h.conv h.runs h.fits preserved,
-        ap (λ (x : Station). x.state.sending) (since-opening h).now,
+        acknowledged_same c (taken h).range h.conv h.runs h.fits preserved,
+        accepted_same c (taken h).range h.conv h.runs h.fits preserved,
+        ap (λ (x : Station). x.state.sending) (since_opening h).now,
       )
-      (station-laws.station-ledger c (taken h) s o calls h.fits (station-always-valid c (taken h) s o calls h.fits).0)
+      (station-laws.station_ledger c (taken h) s o calls h.fits (station_always_valid c (taken h) s o calls h.fits).0)
 
   -- word for word: used send slots equal the fragments accepted less the segments acknowledged
-  pub ledger-less : usedSlots (stateIn e.link e.parts).sending ≡ fragmentsAccepted h.runs - segmentsAcknowledged h.runs
-  ledger-less = omega (arith, ledger)
+  pub ledger_less : used_slots (state_in e.link e.parts).sending ≡ fragments_accepted h.runs - segments_acknowledged h.runs
+  ledger_less = omega (arith, ledger)
 
   -- in message mode the fragments accepted are those of the messages accepted
-  pub fragments-of-messages : isStream c ≡ false → fragmentsAccepted h.runs ≡ segmentsOf (mss c) (acceptedList events)
-  fragments-of-messages off =
-      let s : Station = stationOf h.first in
-      let o = opens-station c h.first h.opens in
-      let preserved = opens-preserved c h.first h.opens in
-      accepted-same c (taken h).range h.conv h.runs h.fits preserved
-      ∙ station-laws.station-messages c off calls s preserved.order.sends.settings
-      (station-always-valid c (taken h) s o calls h.fits).0
-      ∙ ap (λ (l : List Event). segmentsOf (mss c) (acceptedList l)) (sym (since-opening h).events-are)
+  pub fragments_of_messages : is_stream c ≡ false → fragments_accepted h.runs ≡ segments_of (mss c) (accepted_list events)
+  fragments_of_messages off =
+      let s : Station = station_of h.first in
+      let o = opens_station c h.first h.opens in
+      let preserved = opens_preserved c h.first h.opens in
+      accepted_same c (taken h).range h.conv h.runs h.fits preserved
+      ∙ station-laws.station_messages c off calls s preserved.order.sends.settings
+      (station_always_valid c (taken h) s o calls h.fits).0
+      ∙ ap (λ (l : List Event). segments_of (mss c) (accepted_list l)) (sym (since_opening h).events_are)

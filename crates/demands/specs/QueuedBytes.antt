@@ -5,23 +5,23 @@
 use Rattle.std.specs.Prelude.{List}
 use Rattle.protocol.specs.declared.Settings.{Settings}
 use Rattle.session.specs.Calls.{Station, Call, Event}
-use Rattle.delivery.specs.AlwaysValid.{station-always-valid}
+use Rattle.delivery.specs.AlwaysValid.{station_always_valid}
 use Rattle.delivery.specs.QueuedBytes as station
 use Rattle.demands.specs.Steps.{Endpoint, SinceOpening}
-use Rattle.demands.specs.Stations.{stationOf}
+use Rattle.demands.specs.Stations.{station_of}
 use Rattle.demands.specs.Claims.{QueuedBytes}
-use Rattle.demands.specs.RunLaws.{opens-station, taken, since-opening}
+use Rattle.demands.specs.RunLaws.{opens_station, taken, since_opening}
 
-pub queued-bytes : (c : Settings) (calls : List Call) (events : List Event) (e : Endpoint) → SinceOpening c calls events e →
+pub queued_bytes_lem : (c : Settings) (calls : List Call) (events : List Event) (e : Endpoint) → SinceOpening c calls events e →
     QueuedBytes c events e
-queued-bytes c calls events e h =
-    let s : Station = stationOf h.first in
-    let o = opens-station c h.first h.opens in
-    let v = (station-always-valid c (taken h) s o calls h.fits).0 in
-    let f = since-opening h in
-    rw f.events-are
+queued_bytes_lem c calls events e h =
+    let s : Station = station_of h.first in
+    let o = opens_station c h.first h.opens in
+    let v = (station_always_valid c (taken h) s o calls h.fits).0 in
+    let f = since_opening h in
+    rw f.events_are
     (record {
-      next = rw (← f.now) at (station.numbered-count c (taken h) s o calls h.fits v);
-      accepted = rw (← f.now) at (station.accepted-bytes c (taken h) s o calls h.fits v);
-      queued = rw (← f.now) at (station.queued-bytes c (taken h) s o calls h.fits v);
+      next = rw (← f.now) at (station.numbered_count_lem c (taken h) s o calls h.fits v);
+      accepted = rw (← f.now) at (station.accepted_bytes c (taken h) s o calls h.fits v);
+      queued = rw (← f.now) at (station.queued_bytes_lem c (taken h) s o calls h.fits v);
     })

@@ -2,16 +2,16 @@
 -- and no segment falls due." Times need not rise; "just before" is by the distance from now, counting forward. Definitions.
 -- Assumes nothing.
 use Rattle.std.specs.Prelude.{◌≡◌, true, false, List, [], ◌∷◌, ◌⊎◌, ℕ, ◌^◌, ◌≤◌, ◌<◌}
-use Rattle.protocol.specs.Serial.{minus, isDue}
+use Rattle.protocol.specs.Serial.{minus, is_due}
 use Rattle.protocol.specs.declared.Refusal.{Refusal}
 use Rattle.lists.specs.declared.Sent.{Sent}
-use Rattle.schedule.specs.ScheduleLaws.{anyDue}
-use Rattle.session.specs.State.{State, withTimes}
+use Rattle.schedule.specs.ScheduleLaws.{any_due}
+use Rattle.session.specs.State.{State, with_times}
 use Rattle.session.specs.Updating.{dues}
 use Rattle.session.specs.Decides.{All}
 use Rattle.answers.specs.declared.Update.{Update}
 use Rattle.answers.specs.declared.Update.TheVariants as update
-use Rattle.promises.specs.Parts.{FlushParts, stateIn}
+use Rattle.promises.specs.Parts.{FlushParts, state_in}
 use Rattle.promises.specs.Promises.{UpdatePromise}
 use Rattle.demands.specs.Steps.{Endpoint, Room}
 
@@ -36,7 +36,7 @@ pub data Idle : Update → Type 0 where
 
 -- no outstanding segment is due at t
 abbrev pub NoneDue : ℕ → State → Type 0
-NoneDue t s = All (λ (x : Sent). isDue t x.record.due ≡ false) s.sending.outstanding
+NoneDue t s = All (λ (x : Sent). is_due t x.record.due ≡ false) s.sending.outstanding
 
 -- e is the endpoint at the check, e' the one after the updates: none of them flushed, all but the current time is as it was, and at every
 -- time of the span, updated at or not, no segment is due
@@ -44,8 +44,8 @@ pub record StaysQuiet (now named : ℕ) (e : Endpoint) (given : List Update) (e'
   pub idle : All Idle given
   pub parts : e'.parts ≡ e.parts
   pub current : ℕ
-  pub state : stateIn e'.link e'.parts ≡ withTimes (stateIn e.link e.parts) current (stateIn e.link e.parts).schedule
-  pub none-due : (t : ℕ) → Within now named t → NoneDue t (stateIn e'.link e'.parts)
+  pub state : state_in e'.link e'.parts ≡ with_times (state_in e.link e.parts) current (state_in e.link e.parts).schedule
+  pub none_due : (t : ℕ) → Within now named t → NoneDue t (state_in e'.link e'.parts)
 
 -- every update at t that has output and lengths as document 01 states flushes
 abbrev pub FlushesAt : ℕ → Endpoint → Type 0
@@ -58,4 +58,4 @@ FlushesAt t e =
 pub record NoSooner (now named : ℕ) (e : Endpoint) : Type 0 where
   pub within : minus named now ≤ e.link.settings.interval
   pub wanted : minus named now < e.link.settings.interval
-      → FlushesAt named e ⊎ (anyDue named (dues (stateIn e.link e.parts)) ≡ true)
+      → FlushesAt named e ⊎ (any_due named (dues (state_in e.link e.parts)) ≡ true)

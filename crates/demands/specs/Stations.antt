@@ -2,21 +2,21 @@
 -- flush asks.
 -- Assumes nothing.
 use Rattle.std.specs.Prelude.{length}
-use Rattle.protocol.specs.Protocol.{outputLeast, lengthsLeast}
+use Rattle.protocol.specs.Protocol.{output_least, lengths_least}
 use Rattle.session.specs.Calls.{Station}
-use Rattle.promises.specs.Parts.{stateIn}
+use Rattle.promises.specs.Parts.{state_in}
 use Rattle.demands.specs.Steps.{Endpoint}
 
-abbrev pub stationOf : Endpoint → Station
-stationOf e =
+abbrev pub station_of : Endpoint → Station
+station_of e =
     record {
-      state = stateIn e.link e.parts;
-      sendPool = e.parts.sendPool;
-      receivePool = e.parts.receivePool;
+      state = state_in e.link e.parts;
+      send_pool = e.parts.send_pool;
+      receive_pool = e.parts.receive_pool;
       lent = record {
         table = length e.parts.table;
-        ackList = length e.parts.acks;
-        output = outputLeast;
-        lengths = lengthsLeast;
+        ack_list = length e.parts.acks;
+        output = output_least;
+        lengths = lengths_least;
       };
     }

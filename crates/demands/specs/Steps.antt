@@ -2,7 +2,7 @@
 -- and its answer is what the caller sees: the answer given, the output cut by the lengths, the first bytes of the buffer.
 -- Assumes nothing.
 use Rattle.std.specs.Prelude.{◌≡◌, List, [], ◌∷◌, ℕ, ◌^◌, ◌≤◌, ◌<◌, length, take, drop}
-use Rattle.protocol.specs.Protocol.{outputLeast, lengthsLeast}
+use Rattle.protocol.specs.Protocol.{output_least, lengths_least}
 use Rattle.protocol.specs.declared.Settings.{Settings}
 use Rattle.session.specs.Calls.{Call, Reply, Event}
 use Rattle.session.specs.Decides.{All}
@@ -32,30 +32,30 @@ acceptance answer.Accepted = Reply.accepted
 acceptance (answer.Refused r) = Reply.refused r
 
 -- bytes cut into datagrams of these lengths, one behind the other
-unfoldable pub cutBy : List ℕ → List ℕ → List (List ℕ)
-cutBy [] bytes = []
-cutBy (n ∷ lengths) bytes = take n bytes ∷ cutBy lengths (drop n bytes)
+unfoldable pub cut_by : List ℕ → List ℕ → List (List ℕ)
+cut_by [] bytes = []
+cut_by (n ∷ lengths) bytes = take n bytes ∷ cut_by lengths (drop n bytes)
 
 -- of a flush that answers n: the output cut by the first n lengths
-abbrev pub datagramsSeen : Count → FlushParts → Reply
-datagramsSeen (count.Of n) f = Reply.wrote (cutBy (take n f.lengths) f.output)
-datagramsSeen (count.Refused r) f = Reply.refused r
+abbrev pub datagrams_seen : Count → FlushParts → Reply
+datagrams_seen (count.Of n) f = Reply.wrote (cut_by (take n f.lengths) f.output)
+datagrams_seen (count.Refused r) f = Reply.refused r
 
 -- of an update: that it waited, or the same of its flush
-abbrev pub updateSeen : Update → FlushParts → Reply
-updateSeen update.Waited f = Reply.waited
-updateSeen (update.Wrote n) f = datagramsSeen (count.Of n) f
-updateSeen (update.Refused r) f = Reply.refused r
+abbrev pub update_seen : Update → FlushParts → Reply
+update_seen update.Waited f = Reply.waited
+update_seen (update.Wrote n) f = datagrams_seen (count.Of n) f
+update_seen (update.Refused r) f = Reply.refused r
 
 -- of a check: the time
-abbrev pub timeSeen : Time → Reply
-timeSeen (time.At t) = Reply.named t
-timeSeen (time.Refused r) = Reply.refused r
+abbrev pub time_seen : Time → Reply
+time_seen (time.At t) = Reply.named t
+time_seen (time.Refused r) = Reply.refused r
 
 -- of a read that answers n: the first n bytes of the buffer
-abbrev pub messageSeen : Count → List ℕ → Reply
-messageSeen (count.Of n) buffer = Reply.message (take n buffer)
-messageSeen (count.Refused r) buffer = Reply.refused r
+abbrev pub message_seen : Count → List ℕ → Reply
+message_seen (count.Of n) buffer = Reply.message (take n buffer)
+message_seen (count.Refused r) buffer = Reply.refused r
 
 -- ---- one call
 
@@ -71,8 +71,8 @@ pub record InputCall (datagram : List ℕ) (e : Endpoint) (a : Reply) (e' : Endp
 
 -- output and lengths are as long as document 01 states
 pub record Room (f : FlushParts) : Type 0 where
-  pub long : outputLeast ≤ length f.output
-  pub many : lengthsLeast ≤ length f.lengths
+  pub long : output_least ≤ length f.output
+  pub many : lengths_least ≤ length f.lengths
 
 -- into any such output and lengths
 pub record FlushCall (t : ℕ) (e : Endpoint) (a : Reply) (e' : Endpoint) : Type 0 where
@@ -81,7 +81,7 @@ pub record FlushCall (t : ℕ) (e : Endpoint) (a : Reply) (e' : Endpoint) : Type
   pub gives : Count
   pub after : FlushParts
   pub promise : FlushPromise t e.link e.parts lent gives e'.link e'.parts after
-  pub sees : a ≡ datagramsSeen gives after
+  pub sees : a ≡ datagrams_seen gives after
 
 -- into any buffer that long
 pub record ReadCall (room : ℕ) (e : Endpoint) (a : Reply) (e' : Endpoint) : Type 0 where
@@ -90,7 +90,7 @@ pub record ReadCall (room : ℕ) (e : Endpoint) (a : Reply) (e' : Endpoint) : Ty
   pub gives : Count
   pub buffer' : List ℕ
   pub promise : ReadPromise e.link e.parts buffer gives e'.link e'.parts buffer'
-  pub sees : a ≡ messageSeen gives buffer'
+  pub sees : a ≡ message_seen gives buffer'
 
 -- the same, whether or not it flushes
 pub record UpdateCall (t : ℕ) (e : Endpoint) (a : Reply) (e' : Endpoint) : Type 0 where
@@ -99,19 +99,19 @@ pub record UpdateCall (t : ℕ) (e : Endpoint) (a : Reply) (e' : Endpoint) : Typ
   pub gives : Update
   pub after : FlushParts
   pub promise : UpdatePromise t e.link e.parts lent gives e'.link e'.parts after
-  pub sees : a ≡ updateSeen gives after
+  pub sees : a ≡ update_seen gives after
 
 -- block and parts are those before
 pub record CheckCall (t : ℕ) (e : Endpoint) (a : Reply) (e' : Endpoint) : Type 0 where
   pub gives : Time
   pub promise : CheckPromise t e.link e.parts gives
-  pub sees : a ≡ timeSeen gives
+  pub sees : a ≡ time_seen gives
   pub same : e' ≡ e
 
 -- the call x of the endpoint e was answered with a, and left e'
 abbrev pub Called : Endpoint → Call → Reply → Endpoint → Type 0
 Called e (Call.send m) a e' = SendCall m e a e'
-Called e (Call.takeIn d) a e' = InputCall d e a e'
+Called e (Call.take_in d) a e' = InputCall d e a e'
 Called e (Call.flush t) a e' = FlushCall t e a e'
 Called e (Call.read room) a e' = ReadCall room e a e'
 Called e (Call.update t) a e' = UpdateCall t e a e'

@@ -12,41 +12,41 @@ use Rattle.session.specs.Cutting.{pieces}
 use Rattle.enqueue.specs.Enqueueing.{Stored}
 
 -- so many payloads
-pub length-pieces : (m k : ℕ) (b : List ℕ) → length (pieces m k b) ≡ k
+pub length_pieces : (m k : ℕ) (b : List ℕ) → length (pieces m k b) ≡ k
 unfolding pieces
-length-pieces m zero b = refl
-length-pieces m (suc k) b = ap suc (length-pieces m k (drop m b))
+length_pieces m zero b = refl
+length_pieces m (suc k) b = ap suc (length_pieces m k (drop m b))
 
 -- no more is taken or dropped than there is
-take-least : (k : ℕ) (l : List ℕ) → take (min k (length l)) l ≡ take k l
-take-least zero l = rw zero-min
-take-least (suc k) [] = take-nil (min (suc k) 0)
-take-least (suc k) (x ∷ l) = rw suc-min-suc (ap (λ (r : List ℕ). x ∷ r) (take-least k l))
+take_least : (k : ℕ) (l : List ℕ) → take (min k (length l)) l ≡ take k l
+take_least zero l = rw zero-min
+take_least (suc k) [] = take-nil (min (suc k) 0)
+take_least (suc k) (x ∷ l) = rw suc-min-suc (ap (λ (r : List ℕ). x ∷ r) (take_least k l))
 
-drop-least : (k : ℕ) (l : List ℕ) → drop (min k (length l)) l ≡ drop k l
-drop-least zero l = rw zero-min
-drop-least (suc k) [] = drop-nil (min (suc k) 0)
-drop-least (suc k) (x ∷ l) = rw suc-min-suc (drop-least k l)
+drop_least : (k : ℕ) (l : List ℕ) → drop (min k (length l)) l ≡ drop k l
+drop_least zero l = rw zero-min
+drop_least (suc k) [] = drop-nil (min (suc k) 0)
+drop_least (suc k) (x ∷ l) = rw suc-min-suc (drop_least k l)
 
 -- a slot's bytes are within the pool
-pub slot-end : (slot m n : ℕ) → slot < 128 → 128 * m ≤ n → slot * m + m ≤ n
-slot-end slot m n h g = let e : suc slot * m ≤ 128 * m = mul-le-mul_right m h in omega (arith, suc-mul slot m)
+pub slot_end : (slot m n : ℕ) → slot < 128 → 128 * m ≤ n → slot * m + m ≤ n
+slot_end slot m n h g = let e : suc slot * m ≤ 128 * m = mul-le-mul_right m h in omega (arith, suc-mul slot m)
 
-pub slot-below : (slot m : ℕ) {n w : ℕ} → slot < 128 → 128 * m ≤ n → n < w → slot * m < w
-slot-below slot m {n} h g b = omega (arith, slot-end slot m n h g)
+pub slot_below : (slot m : ℕ) {n w : ℕ} → slot < 128 → 128 * m ≤ n → n < w → slot * m < w
+slot_below slot m {n} h g b = omega (arith, slot_end slot m n h g)
 
 -- the part that is copied: `total` bytes of the message, `room` bytes of the pool
-pub part-within : (m at len total room slot : ℕ) → at ≤ total → slot < 128 → 128 * m ≤ room → len ≡ min m (total - at)
+pub part_within : (m at len total room slot : ℕ) → at ≤ total → slot < 128 → 128 * m ≤ room → len ≡ min m (total - at)
     → (at + len ≤ total) × (slot * m + len ≤ room)
-part-within m at len total room slot h s g e = (omega arith, omega (arith, slot-end slot m room s g))
+part_within m at len total room slot h s g e = (omega arith, omega (arith, slot_end slot m room s g))
 
 module _ {m : ℕ} {message : List ℕ} {at slot : ℕ} {before : List ℕ} {len : ℕ} {after : List ℕ} where
   -- the part that is copied is the payload
-  pub part-stored : len ≡ min m (length message - at) → after ≡ sets before (slot * m) (part message at len)
+  pub part_stored : len ≡ min m (length message - at) → after ≡ sets before (slot * m) (part message at len)
       → Stored m message at slot before len after
-  part-stored e f =
+  part_stored e f =
       let q : len ≡ min m (length (drop at message)) = rw (length-drop at message) e in
-      record { size = q ∙ sym (length-take m (drop at message)); pool = f ∙ rw (q, take-least m (drop at message)) }
+      record { size = q ∙ sym (length-take m (drop at message)); pool = f ∙ rw (q, take_least m (drop at message)) }
 
   -- what storing says of its length
   module _ (s : Stored m message at slot before len after) where
@@ -56,9 +56,9 @@ module _ {m : ℕ} {message : List ℕ} {at slot : ℕ} {before : List ℕ} {len
     pub stored_short : len ≤ m
     stored_short = omega (arith, size)
 
-    pub stored-within : at ≤ length message → at + len ≤ length message
-    stored-within h = omega (arith, size)
+    pub stored_within : at ≤ length message → at + len ≤ length message
+    stored_within h = omega (arith, size)
 
     -- what the message has behind it
-    pub stored-rest : drop (at + len) message ≡ drop m (drop at message)
-    stored-rest = sym (drop-drop len at message) ∙ rw (s.size, length-take, drop-least m (drop at message))
+    pub stored_rest : drop (at + len) message ≡ drop m (drop at message)
+    stored_rest = sym (drop-drop len at message) ∙ rw (s.size, length-take, drop_least m (drop at message))

@@ -8,33 +8,33 @@ use native.Mathlib.Omega.{arith}
 use lib.ListN.{length, take, drop, set, length-map}
 use lib.Seq.{sets}
 use Rattle.lists.specs.declared.Held.{Held}
-use Rattle.lists.proofs.Loops.{Written, written_start, written-put, written-done}
-use Rattle.session.specs.Slots.{lowestFree}
+use Rattle.lists.proofs.Loops.{Written, written_start, written_put, written_done}
+use Rattle.session.specs.Slots.{lowest_free}
 use Rattle.session.specs.Cutting.{pieces}
 use Rattle.session.specs.Sending.{Placed, place}
-use Rattle.words.specs.Words.{unpack, heldIn}
-use Rattle.marks.specs.Marks.{Free, nextFree}
-use Rattle.marks.proofs.Frees.{free-lowest-of, free-low-of, free-next}
+use Rattle.words.specs.Words.{unpack, held_in}
+use Rattle.marks.specs.Marks.{Free, next_free}
+use Rattle.marks.proofs.Frees.{free_lowest_of, free_low_of, free_next}
 use Rattle.enqueue.specs.Enqueueing.{Marked, Stored, Places}
-use Rattle.enqueue.proofs.Payloads.{length-pieces, stored-rest}
+use Rattle.enqueue.proofs.Payloads.{length_pieces, stored_rest}
 
 -- ---- words of an array, as the segments that they stand for
 
-take-map : {A B : Type 0} (f : A → B) (n : ℕ) (l : List A) → take n (map f l) ≡ map f (take n l)
-take-map f zero l = refl
-take-map f (suc n) [] = refl
-take-map f (suc n) (x ∷ l) = ap (λ (r : List _). f x ∷ r) (take-map f n l)
+take_map : {A B : Type 0} (f : A → B) (n : ℕ) (l : List A) → take n (map f l) ≡ map f (take n l)
+take_map f zero l = refl
+take_map f (suc n) [] = refl
+take_map f (suc n) (x ∷ l) = ap (λ (r : List _). f x ∷ r) (take_map f n l)
 
-set-map : {A B : Type 0} (f : A → B) (l : List A) (i : ℕ) (a : A) → set (map f l) i (f a) ≡ map f (set l i a)
-set-map f [] i a = refl
-set-map f (x ∷ l) zero a = refl
-set-map f (x ∷ l) (suc i) a = ap (λ (r : List _). f x ∷ r) (set-map f l i a)
+set_map : {A B : Type 0} (f : A → B) (l : List A) (i : ℕ) (a : A) → set (map f l) i (f a) ≡ map f (set l i a)
+set_map f [] i a = refl
+set_map f (x ∷ l) zero a = refl
+set_map f (x ∷ l) (suc i) a = ap (λ (r : List _). f x ∷ r) (set_map f l i a)
 
 -- ---- the loop
 
-pub fragment-most : (stream : Bool) (left f : ℕ) → f ≡ cond stream 0 left → f ≤ left
-fragment-most true left f e = omega arith
-fragment-most false left f e = omega arith
+pub fragment_most_lem : (stream : Bool) (left f : ℕ) → f ≡ cond stream 0 left → f ≤ left
+fragment_most_lem true left f e = omega arith
+fragment_most_lem false left f e = omega arith
 
 -- `goal` is what is to be placed in all, behind `front`. The marks are those of the slots held at first. n segments are in the array of
 -- words, free slots are looked for from `from` on, and so many payloads of `rest` are left.
@@ -47,15 +47,15 @@ pub record Placing (stream : Bool) (m : ℕ) (marks : List ℕ) (goal : Placed) 
   pub written : Written 128 (map unpack ws) (place stream m now pool (pieces m left rest)).segments (front ++ goal.segments) n
   pub pools : (place stream m now pool (pieces m left rest)).pool ≡ goal.pool
 
-pub placing-start : {stream : Bool} {m : ℕ} {marks ws pool message : List ℕ} {n count : ℕ} (h : Marked marks (128 - count)) → count ≤ 128
+pub placing_start : {stream : Bool} {m : ℕ} {marks ws pool message : List ℕ} {n count : ℕ} (h : Marked marks (128 - count)) → count ≤ 128
     → length ws ≡ 128 → n ≤ 128
-    → Placing stream m marks (place stream m h.now pool (pieces m count message)) (heldIn ws n) ws pool message n 0 count
-placing-start {stream = stream} {m = m} {ws = ws} {pool = pool} {message = message} {n = n} {count = count} h c e b =
+    → Placing stream m marks (place stream m h.now pool (pieces m count message)) (held_in ws n) ws pool message n 0 count
+placing_start {stream = stream} {m = m} {ws = ws} {pool = pool} {message = message} {n = n} {count = count} h c e b =
     record {
       now = h.now;
       free = h.free;
       room = omega (arith, h.most);
-      written = rw (take-map unpack n ws) at (written_start {l = map unpack ws}
+      written = rw (take_map unpack n ws) at (written_start {l = map unpack ws}
           (place stream m h.now pool (pieces m count message)).segments n (length-map ws unpack ∙ e) b);
       pools = refl;
     }
@@ -63,26 +63,26 @@ placing-start {stream = stream} {m = m} {ws = ws} {pool = pool} {message = messa
 module _ {stream : Bool} {m : ℕ} {marks : List ℕ} {goal : Placed} {front : List Held} {ws pool rest : List ℕ} {n from left : ℕ}
     (p : Placing stream m marks goal front ws pool rest n from left) where
   -- nothing is left
-  pub placing-done : (before : List ℕ) (n₀ : ℕ) → front ≡ heldIn before n₀ → left ≤ 0 → Places goal before n₀ ws n pool
+  pub placing_done : (before : List ℕ) (n₀ : ℕ) → front ≡ held_in before n₀ → left ≤ 0 → Places goal before n₀ ws n pool
   unfolding pieces place
-  placing-done before n₀ f h =
+  placing_done before n₀ f h =
       let e : left ≡ 0 = omega arith in
-      let w = written-done (rw e) p.written in
+      let w = written_done (rw e) p.written in
       record {
         whole = sym (length-map ws unpack) ∙ p.written.whole;
         fits = w.fits;
-        list = sym (take-map unpack n ws) ∙ w.list ∙ rw f refl;
+        list = sym (take_map unpack n ws) ∙ w.list ∙ rw f refl;
         pool = rw e at p.pools;
       }
 
   -- the next slot
   module _ (some : 0 < left) where
-    pub next_low : nextFree marks from < 128
-    next_low = free-low-of p.free 128 (omega arith) (omega (arith, p.room))
+    pub next_low : next_free marks from < 128
+    next_low = free_low_of p.free 128 (omega arith) (omega (arith, p.room))
 
-    module _ {slot : ℕ} (e : slot ≡ nextFree marks from) where
-      lowest : lowestFree p.now 128 ≡ slot
-      lowest = sym (e ∙ free-lowest-of p.free 128 (omega arith) (omega (arith, p.room)))
+    module _ {slot : ℕ} (e : slot ≡ next_free marks from) where
+      lowest : lowest_free p.now 128 ≡ slot
+      lowest = sym (e ∙ free_lowest_of p.free 128 (omega arith) (omega (arith, p.room)))
 
       one : (k : ℕ) → left ≡ suc k → place stream m p.now pool (pieces m left rest) ≡ record {
         segments = record { slot = slot; len = length (take m rest); fragment = cond stream 0 k }
@@ -90,7 +90,7 @@ module _ {stream : Bool} {m : ℕ} {marks : List ℕ} {goal : Placed} {front : L
         pool = (place stream m (slot ∷ p.now) (sets pool (slot * m) (take m rest)) (pieces m k (drop m rest))).pool;
       }
       unfolding pieces place
-      one k q = rw (q, lowest, length-pieces m k (drop m rest))
+      one k q = rw (q, lowest, length_pieces m k (drop m rest))
 
       next : (word : ℕ) → unpack word ≡ record { slot = slot; len = length (take m rest); fragment = cond stream 0 (left - 1) } → n < 128
           → Placing stream m marks goal front (set ws n word) (sets pool (slot * m) (take m rest)) (drop m rest) (n + 1) (slot + 1)
@@ -100,16 +100,16 @@ module _ {stream : Bool} {m : ℕ} {marks : List ℕ} {goal : Placed} {front : L
           let low : slot < 128 = rw e next_low in
           record {
             now = slot ∷ p.now;
-            free = free-next p.free slot e (omega arith) (slot ∷ p.now) (λ i. refl);
+            free = free_next p.free slot e (omega arith) (slot ∷ p.now) (λ i. refl);
             room = omega (arith, p.room);
-            written = rw (← u, set-map unpack ws n word) at (written-put h (rw q at p.written));
+            written = rw (← u, set_map unpack ws n word) at (written_put h (rw q at p.written));
             pools = rw q at p.pools;
           }
 
 -- a payload is stored in the next slot
-pub placing-next : {stream : Bool} {m : ℕ} {marks : List ℕ} {goal : Placed} {front : List Held} {ws pool message pool' : List ℕ}
+pub placing_next : {stream : Bool} {m : ℕ} {marks : List ℕ} {goal : Placed} {front : List Held} {ws pool message pool' : List ℕ}
     {n left at from slot len : ℕ} (word : ℕ)
-    → Placing stream m marks goal front ws pool (drop at message) n from left → 0 < left → slot ≡ nextFree marks from → n < 128
+    → Placing stream m marks goal front ws pool (drop at message) n from left → 0 < left → slot ≡ next_free marks from → n < 128
     → Stored m message at slot pool len pool' → unpack word ≡ record { slot = slot; len = len; fragment = cond stream 0 (left - 1) }
     → Placing stream m marks goal front (set ws n word) pool' (drop (at + len) message) (n + 1) (slot + 1) (left - 1)
-placing-next word p some e h s u = rw (stored-rest s, s.pool) (next p some e word (u ∙ rw s.size refl) h)
+placing_next word p some e h s u = rw (stored_rest s, s.pool) (next p some e word (u ∙ rw s.size refl) h)

@@ -1,12 +1,12 @@
 // Sending a message: its fragments take the lowest free slots of the send pool and are queued, in place. In stream mode the last queued
 // segment is filled first.
 ghost use Rattle.std.specs.Prelude.{◌≡◌, Bool, cond, ◌-◌, ◌*◌, ◌<◌, ◌≤◌, min, length, drop};
-ghost use Rattle.protocol.specs.Protocol.{sendSlots};
+ghost use Rattle.protocol.specs.Protocol.{send_slots};
 ghost use Rattle.session.specs.State.{State};
-ghost use Rattle.session.specs.Cutting.{segmentCount, pieces};
+ghost use Rattle.session.specs.Cutting.{segment_count, pieces};
 ghost use Rattle.session.specs.Sending.{place, filled, sending};
-ghost use Rattle.session.specs.FillLaws.{roomOf};
-ghost use Rattle.words.specs.Words.{unpack, heldIn};
+ghost use Rattle.session.specs.FillLaws.{room_of};
+ghost use Rattle.words.specs.Words.{unpack, held_in};
 ghost use Rattle.enqueue.specs.Enqueueing.{Marked, Stored, Fillable, Fills, Placeable, Places, Enqueueable, PartsOf, Follows};
 
 use answers::Answer;
@@ -23,7 +23,7 @@ pub struct Enqueued {
 // How many new segments so many bytes make: in stream mode none of no bytes.
 fn segment_count(stream: bool, mss: usize, len: usize) -> usize
     requires { 0 < mss }
-    ensures { result ≡ segmentCount stream mss len }
+    ensures { result ≡ segment_count stream mss len }
 {
     if len == 0 {
         if stream {
@@ -42,7 +42,7 @@ fn least(a: usize, b: usize) -> usize
 
 // The payload of a message that begins at `at` is stored in a slot. The answer is its length.
 fn store(mss: usize, message: &[u8], at: usize, pool: &mut [u8], slot: usize) -> usize
-    requires { (at ≤ length message.now) × (slot < sendSlots) × (sendSlots * mss ≤ length pool.old) }
+    requires { (at ≤ length message.now) × (slot < send_slots) × (send_slots * mss ≤ length pool.old) }
     ensures { Stored mss message.now at slot pool.old result pool.new }
 {
     let len = least(mss, message.len() - at);
@@ -65,7 +65,7 @@ fn word_of(slot: usize, len: usize, fragment: usize) -> u32
 // How many bytes the last of n queued segments can take in: none in message mode, and where it is full or none is queued.
 fn last_room(stream: bool, mss: usize, queued: &[u32; 128], n: usize) -> usize
     requires { (length queued.now ≡ 128) × (n ≤ 128) }
-    ensures { result ≡ roomOf stream mss (heldIn queued.now n) }
+    ensures { result ≡ room_of stream mss (held_in queued.now n) }
 {
     if stream {
         if 0 < n {
@@ -88,8 +88,8 @@ fn fill(
     k: usize,
 )
     requires { Fillable mss queued.old n room pool.old message.now k }
-    ensures { (stream : Bool) → room ≡ roomOf stream mss (heldIn queued.old n) →
-        Fills (filled stream mss (heldIn queued.old n) pool.old message.now) n
+    ensures { (stream : Bool) → room ≡ room_of stream mss (held_in queued.old n) →
+        Fills (filled stream mss (held_in queued.old n) pool.old message.now) n
         queued.new pool.new }
 {
     if room == 0 {
@@ -123,7 +123,7 @@ fn place(
     count: usize,
 ) -> usize
     requires { (from ≤ length message.now) × Placeable mss queued.old n marks.now pool.old count }
-    ensures { (h : Marked marks.now (sendSlots - count)) →
+    ensures { (h : Marked marks.now (send_slots - count)) →
         Places (place stream mss h.now pool.old (pieces mss count (drop from message.now))) queued.old n
         queued.new result pool.new }
 {

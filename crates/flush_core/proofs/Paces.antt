@@ -9,7 +9,7 @@ use Rattle.protocol.specs.declared.Settings.{Settings}
 use Rattle.timing.specs.declared.Record.{Record}
 use Rattle.schedule.specs.Schedules.{updated}
 use Rattle.schedule.specs.declared.Updated as schedule
-use Rattle.session.specs.State.{State, withTimes}
+use Rattle.session.specs.State.{State, with_times}
 use Rattle.session.specs.Flushing.{flushing}
 use Rattle.session.specs.Updating.{updating}
 use Rattle.answers.specs.declared.Count.TheVariants as count
@@ -18,11 +18,11 @@ use Rattle.control.specs.declared.Flight.{Flight}
 use Rattle.control.specs.declared.Arrival.{Arrival}
 use Rattle.control.specs.declared.Clock.{Clock}
 use Rattle.control.specs.declared.Link.{Link}
-use Rattle.control.specs.Views.{is_set, Arrays, link_of, scheduleOf, state_of, counted, countsFit}
+use Rattle.control.specs.Views.{is_set, Arrays, link_of, schedule_of, state_of, counted, counts_fit}
 use Rattle.flush_core.specs.declared.Flushed.{Flushed}
 use Rattle.flush_core.specs.declared.parts.Step.{Step}
-use Rattle.flush_core.specs.Parts.{Moved, Steps, currentOf}
-use Rattle.flush_core.specs.Flushes.{unflushedOf, Wrote, Runs}
+use Rattle.flush_core.specs.Parts.{Moved, Steps, current_of}
+use Rattle.flush_core.specs.Flushes.{unflushed_of, Wrote, Runs}
 
 module _ (c : Settings) (f : Flight) (a : Arrival) (k : Clock) (x : Arrays) (records : List Record) (acks : List ℕ)
     (t : ℕ) (pool out lengths : List ℕ) (s : Step) where
@@ -36,8 +36,8 @@ module _ (c : Settings) (f : Flight) (a : Arrival) (k : Clock) (x : Arrays) (rec
   next = updated before.schedule t before.settings.interval
 
   -- the state with a current time and the next schedule
-  moved : Moved k t c.interval s → (k' : Clock) (n : ℕ) → k' ≡ currentOf s.clock n
-      → state_of (link_of c f a k' x) records acks ≡ withTimes before n next.schedule
+  moved : Moved k t c.interval s → (k' : Clock) (n : ℕ) → k' ≡ current_of s.clock n
+      → state_of (link_of c f a k' x) records acks ≡ with_times before n next.schedule
   unfolding state_of
   moved steps k' n e =
       λ i.
@@ -47,7 +47,7 @@ module _ (c : Settings) (f : Flight) (a : Arrival) (k : Clock) (x : Arrays) (rec
         receiving = before.receiving;
         probe = (ap (λ (y : Clock). y.probe) e ∙ ap (λ (y : Clock). y.probe) steps.is) i;
         current = (e i).current;
-        schedule = (ap scheduleOf e ∙ steps.schedule) i;
+        schedule = (ap schedule_of e ∙ steps.schedule) i;
         congestion = f.congestion;
         ask = is_set ((ap (λ (y : Clock). y.ask) e ∙ ap (λ (y : Clock). y.ask) steps.is) i);
         dead = is_set ((ap (λ (y : Clock). y.dead) e ∙ ap (λ (y : Clock). y.dead) steps.is) i);
@@ -67,14 +67,14 @@ module _ (c : Settings) (f : Flight) (a : Arrival) (k : Clock) (x : Arrays) (rec
     unfolding updating state_of
     flushed false steps e h = let q = rw steps at h in (count.Of (length (flushing before t pool).datagrams), q.0, q.1)
     flushed true steps e h =
-        let same : s.clock ≡ currentOf s.clock k.current = ap (λ (y : Clock). currentOf s.clock y.current) steps.is in
+        let same : s.clock ≡ current_of s.clock k.current = ap (λ (y : Clock). current_of s.clock y.current) steps.is in
         let q = rw (moved steps s.clock k.current same) at h in
         rw (sym (decided steps) ∙ e) q
 
   pub waited : (paced : Bool) → Steps paced k t c.interval s → s.flushes ≡ false → counted f a ≡ true
-      → (k' : Clock) → k' ≡ currentOf s.clock t → (r : Flushed) → r ≡ unflushedOf Waited f a k' → (records' : List Record)
+      → (k' : Clock) → k' ≡ current_of s.clock t → (r : Flushed) → r ≡ unflushed_of Waited f a k' → (records' : List Record)
       → Runs paced block records pool acks t out lengths r (link_of c r.flight r.arrival r.clock x) records' out lengths
-  unfolding updating countsFit
+  unfolding updating counts_fit
   waited false steps e n k' d r w records' = absurd (true≢false (sym (ap (λ (y : Step). y.flushes) steps) ∙ e))
   waited true steps e n k' d r w records' =
       rw (w, sym (decided steps) ∙ e)

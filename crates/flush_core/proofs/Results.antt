@@ -11,27 +11,27 @@ use lib.ListN.{length, take, length-map}
 use lib.Seq.{length-take-le}
 use Rattle.protocol.specs.Serial.{plus}
 use Rattle.protocol.specs.declared.Settings.{Settings}
-use Rattle.record_words.specs.RecordWords.{recordsIn}
+use Rattle.record_words.specs.RecordWords.{records_in}
 use Rattle.session.specs.State.{State}
-use Rattle.session.specs.Flushing.{numberedCount, bytesOfSegments, flushing}
+use Rattle.session.specs.Flushing.{numbered_count, bytes_of_segments, flushing}
 use Rattle.answers.specs.declared.Update.TheVariants as update
-use Rattle.words.specs.Words.{unpack, heldIn}
+use Rattle.words.specs.Words.{unpack, held_in}
 use Rattle.control.specs.declared.Flight.{Flight}
 use Rattle.control.specs.declared.Arrival.{Arrival}
 use Rattle.control.specs.declared.Clock.{Clock}
 use Rattle.control.specs.declared.Link.{Link}
-use Rattle.control.specs.Views.{is_set, pairs, arrays, link_of, receivingOf, scheduleOf, state_of, counted, countsFit}
+use Rattle.control.specs.Views.{is_set, pairs, arrays, link_of, receiving_of, schedule_of, state_of, counted, counts_fit}
 use Rattle.control.specs.ViewLaws.{counts}
-use Rattle.numbering.specs.Sents.{sentIn}
+use Rattle.numbering.specs.Sents.{sent_in}
 use Rattle.numbering.specs.Numbering.{Numbers}
 use Rattle.promises.specs.Cores.{PutsSent}
 use Rattle.transmit.specs.declared.Written.{Written}
 use Rattle.transmit.specs.Writing.{Writes}
 use Rattle.transmit.specs.Flushes.{FlushOf, FlushWrites}
-use Rattle.transmit.specs.FlushLaws.{flush-writes}
+use Rattle.transmit.specs.FlushLaws.{flush_writes}
 use Rattle.transmit.specs.IdleLaws.{idle}
 use Rattle.flush_core.specs.declared.parts.Plan.{Plan}
-use Rattle.flush_core.specs.Parts.{goesBy, Plans, windowIn, withLosses, Moves, clearedOf}
+use Rattle.flush_core.specs.Parts.{goes_by, Plans, window_in, with_losses, Moves, cleared_of}
 use Rattle.flush_core.specs.Flushes.{put_back, Wrote}
 
 module _ (c : Settings) (f : Flight) (a : Arrival) (k : Clock) (queued outstanding transmissions ready waiting numbers : List ℕ)
@@ -40,41 +40,41 @@ module _ (c : Settings) (f : Flight) (a : Arrival) (k : Clock) (queued outstandi
   block = link_of c f a k (arrays queued outstanding transmissions ready waiting numbers)
 
   abbrev before : State
-  before = state_of block (recordsIn records) acks
+  before = state_of block (records_in records) acks
 
   -- what the flush goes by is of the block's state
-  goes_by : length ready ≡ 128 → a.ready ≤ 128 → FlushOf before t (goesBy c f a t)
+  goes_by_lem : length ready ≡ 128 → a.ready ≤ 128 → FlushOf before t (goes_by c f a t)
   unfolding state_of
-  goes_by e h =
-      let held : length (heldIn ready a.ready) ≡ a.ready =
+  goes_by_lem e h =
+      let held : length (held_in ready a.ready) ≡ a.ready =
       length-map (take a.ready ready) unpack ∙ length-take-le a.ready ready (omega arith) in
       record { settings = refl; carries = rw held; timeout = refl; time = refl }
 
-  module _ (pool out lengths : List ℕ) (window : ℕ) (e₁ : window ≡ windowIn c f) (plan : Plan) (n : Flight)
+  module _ (pool out lengths : List ℕ) (window : ℕ) (e₁ : window ≡ window_in c f) (plan : Plan) (n : Flight)
       (queued' outstanding' transmissions' records' : List ℕ) (w : Written) (transmissions'' records'' out' lengths' : List ℕ)
       (plans : Plans c f a k t plan) (numbered : Numbers f window queued outstanding transmissions records n queued' outstanding'
       transmissions' records')
       (writes : Writes plan.flush (pairs a.acks acks) plan.ask plan.tell
-      (sentIn outstanding' transmissions' (recordsIn records') n.outstanding) outstanding' n.outstanding pool out lengths w
+      (sent_in outstanding' transmissions' (records_in records') n.outstanding) outstanding' n.outstanding pool out lengths w
       transmissions'' records'' out' lengths')
       (whole : length ready ≡ 128) (fit : counted f a ≡ true) where
     -- what is written is what the flush of the state writes
     written : FlushWrites before t outstanding' n.outstanding pool out lengths w transmissions'' records'' out' lengths'
     unfolding state_of
     written =
-        flush-writes before t (goesBy c f a t) (goes_by whole (counts f a fit).ready) pool outstanding' n.outstanding out
+        flush_writes before t (goes_by c f a t) (goes_by_lem whole (counts f a fit).ready) pool outstanding' n.outstanding out
         lengths w transmissions'' records'' out' lengths'
         (rw (plans.flush, plans.ask, plans.tell, numbered.sent.list, e₁) at writes)
 
-    module _ (a' : Arrival) (k' : Clock) (f' : Flight) (lost : f' ≡ withLosses c n window w.fast w.late)
-        (cleared : a' ≡ clearedOf a) (moves : Moves k plan.probe w.dead t k') where
+    module _ (a' : Arrival) (k' : Clock) (f' : Flight) (lost : f' ≡ with_losses c n window w.fast w.late)
+        (cleared : a' ≡ cleared_of a) (moves : Moves k plan.probe w.dead t k') where
       abbrev after : Link
       after = link_of c f' a' k' (arrays queued' outstanding' transmissions'' ready waiting numbers)
 
       -- the numbers but for the congestion window, and that
       flown : f' ≡ record {
         una = f.una;
-        next = plus f.next (numberedCount (windowIn c f) before.sending);
+        next = plus f.next (numbered_count (window_in c f) before.sending);
         rtt = f.rtt;
         window = f.window;
         congestion = f'.congestion;
@@ -88,14 +88,14 @@ module _ (c : Settings) (f : Flight) (a : Arrival) (k : Clock) (queued outstandi
       unfolding state_of flushing
       congested = rw (lost, numbered.rest, e₁, written.late, written.fast)
 
-      left : heldIn queued' f'.queued ≡ (flushing before t pool).state.sending.queued
+      left : held_in queued' f'.queued ≡ (flushing before t pool).state.sending.queued
       unfolding state_of flushing
       left = rw lost (numbered.left ∙ rw e₁)
 
-      sent : sentIn outstanding' transmissions'' (recordsIn records'') f'.outstanding ≡ (flushing before t pool).state.sending.outstanding
+      sent : sent_in outstanding' transmissions'' (records_in records'') f'.outstanding ≡ (flushing before t pool).state.sending.outstanding
       sent = rw lost written.sent.list
 
-      state : state_of after (recordsIn records'') acks ≡ (flushing before t pool).state
+      state : state_of after (records_in records'') acks ≡ (flushing before t pool).state
       unfolding state_of flushing pairs
       state =
           λ i.
@@ -107,25 +107,25 @@ module _ (c : Settings) (f : Flight) (a : Arrival) (k : Clock) (queued outstandi
               queued = left i;
               outstanding = sent i;
               window = (flown i).window;
-              roundTrip = (flown i).rtt;
+              round_trip = (flown i).rtt;
             };
-            receiving = receivingOf (cleared i) ready waiting numbers (pairs (cleared i).acks acks);
+            receiving = receiving_of (cleared i) ready waiting numbers (pairs (cleared i).acks acks);
             probe = (ap (λ (y : Clock). y.probe) moves.is ∙ plans.probe) i;
             current = (moves.is i).current;
-            schedule = scheduleOf (moves.is i);
+            schedule = schedule_of (moves.is i);
             congestion = congested i;
             ask = is_set (moves.is i).ask;
             dead = (moves.flag ∙ written.dead) i;
           }
 
-      counts-fit : countsFit after ≡ true
-      unfolding countsFit
-      counts-fit =
+      counts_fit_lem : counts_fit after ≡ true
+      unfolding counts_fit
+      counts_fit_lem =
           let q = counts f a fit in
           rw (
             cleared,
             lost,
-            le-leb _ _ numbered.queued-fits,
+            le-leb _ _ numbered.queued_fits,
             le-leb _ _ numbered.sent.fits,
             le-leb _ _ q.ready,
             le-leb _ _ q.waiting,
@@ -133,23 +133,23 @@ module _ (c : Settings) (f : Flight) (a : Arrival) (k : Clock) (queued outstandi
 
       -- all records are put back, or, where nothing was sent, none
       puts : (changed : ℕ) → changed ≡ cond w.sent f'.outstanding 0 → PutsSent before.sending.outstanding
-          (flushing before t pool).state.sending.outstanding after (put_back outstanding' changed (recordsIn records''))
+          (flushing before t pool).state.sending.outstanding after (put_back outstanding' changed (records_in records''))
       puts changed e = go w.sent refl
         where
           go : (b : Bool) → w.sent ≡ b → PutsSent before.sending.outstanding
-              (flushing before t pool).state.sending.outstanding after (put_back outstanding' changed (recordsIn records''))
+              (flushing before t pool).state.sending.outstanding after (put_back outstanding' changed (records_in records''))
           go true h = inl (record { words = refl; changed = rw h at e })
           go false h = inr (rw h at e, idle before t pool (sym written.sends ∙ h))
 
-      pub runs : (changed : ℕ) → changed ≡ cond w.sent f'.outstanding 0 → Wrote block (recordsIn records) pool acks t out lengths
+      pub runs : (changed : ℕ) → changed ≡ cond w.sent f'.outstanding 0 → Wrote block (records_in records) pool acks t out lengths
           (record { answer = update.Wrote w.count; flight = f'; arrival = a'; clock = k'; changed = changed })
-          after (recordsIn records'') out' lengths'
+          after (records_in records'') out' lengths'
       runs changed e =
-          let number = written.output.number ∙ length-map (flushing before t pool).datagrams bytesOfSegments in (
+          let number = written.output.number ∙ length-map (flushing before t pool).datagrams bytes_of_segments in (
             ap update.Wrote number,
             record {
               answer = refl;
-              counts = counts-fit;
+              counts = counts_fit_lem;
               state = state;
               puts = puts changed e;
               output = rw number at written.output;

@@ -1,58 +1,58 @@
 -- What a flush goes by, and the numbers that it leaves. Definitions.
 -- Assumes nothing.
 use Rattle.std.specs.Prelude.{◌≡◌, Bool, true, false, ◌||◌, ℕ, ◌-◌}
-use Rattle.protocol.specs.Protocol.{receiveWindow}
-use Rattle.protocol.specs.Ranges.{mss, controlsCongestion}
+use Rattle.protocol.specs.Protocol.{receive_window}
+use Rattle.protocol.specs.Ranges.{mss, controls_congestion}
 use Rattle.protocol.specs.Serial.{minus}
 use Rattle.protocol.specs.declared.Settings.{Settings}
-use Rattle.congestion.specs.Congestions.{usedWindow, afterFlush}
+use Rattle.congestion.specs.Congestions.{used_window, after_flush}
 use Rattle.congestion.specs.declared.Losses.{Losses}
-use Rattle.timing.specs.Probes.{nextClock}
+use Rattle.timing.specs.Probes.{next_clock}
 use Rattle.timing.specs.declared.ProbeClock.{ProbeClock}
 use Rattle.control.specs.declared.Flight.{Flight}
 use Rattle.control.specs.declared.Arrival.{Arrival}
 use Rattle.control.specs.declared.Clock.{Clock}
-use Rattle.control.specs.Views.{is_set, scheduleOf}
+use Rattle.control.specs.Views.{is_set, schedule_of}
 use Rattle.schedule.specs.Schedules.{updated}
 use Rattle.transmit.specs.declared.Flush.{Flush}
 use Rattle.flush_core.specs.declared.parts.Plan.{Plan}
 use Rattle.flush_core.specs.declared.parts.Step.{Step}
 
 -- the settings, the link's timeout and the time; its segments carry window 128 minus ready count, and una = rcv_nxt
-abbrev pub goesBy : Settings → Flight → Arrival → ℕ → Flush
-goesBy c f a t =
+abbrev pub goes_by : Settings → Flight → Arrival → ℕ → Flush
+goes_by c f a t =
     record {
       settings = c;
-      carried = record { conv = c.conv; wnd = receiveWindow - a.ready; una = a.expected };
+      carried = record { conv = c.conv; wnd = receive_window - a.ready; una = a.expected };
       timeout = f.rtt.timeout;
       t = t;
     }
 
 -- that, with the wishes: an ask that is wanted, or that the probe clock wants, and a tell
 pub record Plans (c : Settings) (f : Flight) (a : Arrival) (k : Clock) (t : ℕ) (r : Plan) : Type 0 where
-  pub flush : r.flush ≡ goesBy c f a t
-  pub ask : r.ask ≡ (is_set k.ask || (nextClock k.probe t f.window).ask)
+  pub flush : r.flush ≡ goes_by c f a t
+  pub ask : r.ask ≡ (is_set k.ask || (next_clock k.probe t f.window).ask)
   pub tell : r.tell ≡ is_set a.tell
-  pub probe : r.probe ≡ (nextClock k.probe t f.window).clock
+  pub probe : r.probe ≡ (next_clock k.probe t f.window).clock
 
 -- the window that it goes by
-abbrev pub windowIn : Settings → Flight → ℕ
-windowIn c f = usedWindow (controlsCongestion c) f.window f.congestion.window
+abbrev pub window_in : Settings → Flight → ℕ
+window_in c f = used_window (controls_congestion c) f.window f.congestion.window
 
 -- what it tells of losses, with these numbers at its end
-abbrev pub lossesIn : Settings → Flight → ℕ → Bool → Bool → Losses
-lossesIn c f window fast late =
+abbrev pub losses_in : Settings → Flight → ℕ → Bool → Bool → Losses
+losses_in c f window fast late =
     record { fast = fast; late = late; skips = c.threshold; inflight = minus f.next f.una; used = window }
 
 -- and these numbers with the congestion window after that
-abbrev pub withLosses : Settings → Flight → ℕ → Bool → Bool → Flight
-withLosses c f window fast late =
+abbrev pub with_losses : Settings → Flight → ℕ → Bool → Bool → Flight
+with_losses c f window fast late =
     record {
       una = f.una;
       next = f.next;
       rtt = f.rtt;
       window = f.window;
-      congestion = afterFlush f.congestion (mss c) (lossesIn c f window fast late);
+      congestion = after_flush f.congestion (mss c) (losses_in c f window fast late);
       queued = f.queued;
       outstanding = f.outstanding;
     }
@@ -63,8 +63,8 @@ pub record Moves (k : Clock) (probe : ProbeClock) (dead : Bool) (t : ℕ) (r : C
   pub flag : is_set r.dead ≡ (is_set k.dead || dead)
 
 -- no acks, and no wish for a tell
-abbrev pub clearedOf : Arrival → Arrival
-clearedOf a = record { expected = a.expected; tell = 0; ready = a.ready; waiting = a.waiting; acks = 0 }
+abbrev pub cleared_of : Arrival → Arrival
+cleared_of a = record { expected = a.expected; tell = 0; ready = a.ready; waiting = a.waiting; acks = 0 }
 
 -- ---- whether it flushes
 
@@ -79,8 +79,8 @@ pub record Moved (k : Clock) (t interval : ℕ) (r : Step) : Type 0 where
         dead = k.dead;
         updated = r.clock.updated;
       }
-  pub schedule : scheduleOf r.clock ≡ (updated (scheduleOf k) t interval).schedule
-  pub flushes : r.flushes ≡ (updated (scheduleOf k) t interval).flushes
+  pub schedule : schedule_of r.clock ≡ (updated (schedule_of k) t interval).schedule
+  pub flushes : r.flushes ≡ (updated (schedule_of k) t interval).flushes
 
 -- a flush leaves the schedule, and runs; an update, which is paced, moves it on, and runs if it is due
 abbrev pub Steps : Bool → Clock → ℕ → ℕ → Step → Type 0
@@ -88,5 +88,5 @@ Steps false k t interval r = r ≡ record { clock = k; flushes = true }
 Steps true k t interval r = Moved k t interval r
 
 -- t is the current time
-abbrev pub currentOf : Clock → ℕ → Clock
-currentOf k t = record { probe = k.probe; current = t; next_flush = k.next_flush; ask = k.ask; dead = k.dead; updated = k.updated }
+abbrev pub current_of : Clock → ℕ → Clock
+current_of k t = record { probe = k.probe; current = t; next_flush = k.next_flush; ask = k.ask; dead = k.dead; updated = k.updated }

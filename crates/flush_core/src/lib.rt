@@ -4,8 +4,8 @@ pub mod parts;
 ghost use Rattle.std.specs.Prelude.{◌≡◌, ℕ, List, length};
 ghost use Rattle.control.specs.Views.{arrays, link_of, Whole};
 ghost use Rattle.checking.specs.Verdicts.{Sounds};
-ghost use Rattle.record_words.specs.RecordWords.{recordsIn};
-ghost use Rattle.flush_core.specs.Flushes.{Flushable, unflushedOf, Wrote, Runs, Core};
+ghost use Rattle.record_words.specs.RecordWords.{records_in};
+ghost use Rattle.flush_core.specs.Flushes.{Flushable, unflushed_of, Wrote, Runs, Core};
 
 use answers::Update;
 use checking::{Verdict, flights};
@@ -26,7 +26,7 @@ pub struct Flushed {
 
 // What did not flush, or was refused: the numbers are those given, and nothing is to be put back.
 fn unflushed(answer: Update, flight: Flight, arrival: Arrival, clock: Clock) -> Flushed
-    ensures { result ≡ unflushedOf answer flight arrival clock }
+    ensures { result ≡ unflushed_of answer flight arrival clock }
 {
     Flushed {
         answer,
@@ -58,10 +58,10 @@ fn flush_now(
     ensures { ((ready waiting numbers : List ℕ) → length ready ≡ 128 → Wrote
         (link_of settings flight arrival clock (arrays queued.old outstanding.old transmissions.old
         ready waiting numbers))
-        (recordsIn records.old) pool.now acks.now t output.old lengths.old result
+        (records_in records.old) pool.now acks.now t output.old lengths.old result
         (link_of settings result.flight result.arrival result.clock (arrays queued.new outstanding.new
         transmissions.new ready waiting numbers))
-        (recordsIn records.new) output.new lengths.new)
+        (records_in records.new) output.new lengths.new)
         × (length records.new ≡ 128) }
 {
     let plan = parts::plan_of(settings, flight, arrival, clock, t);
@@ -116,10 +116,10 @@ fn run(
     ensures { ((ready waiting numbers : List ℕ) → length ready ≡ 128 → Runs paced
         (link_of settings flight arrival clock (arrays queued.old outstanding.old transmissions.old
         ready waiting numbers))
-        (recordsIn records.old) pool.now acks.now t output.old lengths.old result
+        (records_in records.old) pool.now acks.now t output.old lengths.old result
         (link_of settings result.flight result.arrival result.clock (arrays queued.new outstanding.new
         transmissions.new ready waiting numbers))
-        (recordsIn records.new) output.new lengths.new)
+        (records_in records.new) output.new lengths.new)
         × (length records.new ≡ 128) }
 {
     let next = parts::step_of(paced, clock, t, settings.interval);
@@ -175,11 +175,11 @@ pub fn flush(
     ensures { Core paced
         (link_of settings flight arrival clock (arrays queued.old outstanding.old transmissions.old
         ready.now waiting.now waiting_numbers.now))
-        (recordsIn records.old) table send_pool.now receive_pool.now acks.now t
+        (records_in records.old) table send_pool.now receive_pool.now acks.now t
         output.old lengths.old result
         (link_of settings result.flight result.arrival result.clock (arrays queued.new outstanding.new
         transmissions.new ready.now waiting.now waiting_numbers.now))
-        (recordsIn records.new) output.new lengths.new
+        (records_in records.new) output.new lengths.new
         × (length records.new ≡ 128) }
 {
     let lent = Lengths {

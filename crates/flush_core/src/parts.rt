@@ -1,9 +1,9 @@
 // The parts of a flush and of an update: what they go by, and the numbers that they leave.
 ghost use Rattle.std.specs.Prelude.{◌≡◌, cond, ◌≤◌};
-ghost use Rattle.control.specs.Views.{is_set, scheduleOf};
+ghost use Rattle.control.specs.Views.{is_set, schedule_of};
 ghost use Rattle.protocol.specs.Ranges.{mss};
 ghost use Rattle.congestion.specs.Congestions.{Countable};
-ghost use Rattle.flush_core.specs.Parts.{Plans, windowIn, lossesIn, withLosses, Moves, clearedOf, Steps, currentOf};
+ghost use Rattle.flush_core.specs.Parts.{Plans, window_in, losses_in, with_losses, Moves, cleared_of, Steps, current_of};
 
 use congestion::{Losses, rules};
 use control::{Arrival, Clock, Flight};
@@ -71,7 +71,7 @@ pub(crate) fn plan_of(
 
 // The window that a flush goes by.
 pub(crate) fn window_of(settings: Settings, flight: Flight) -> u32
-    ensures { result ≡ windowIn settings flight }
+    ensures { result ≡ window_in settings flight }
 {
     let congestion = flight.congestion;
     rules::used_window(settings.congestion == 1, flight.window, congestion.window)
@@ -85,8 +85,8 @@ pub(crate) fn after_losses(
     fast: bool,
     late: bool,
 ) -> Flight
-    requires { Countable (mss settings) (lossesIn settings flight window fast late) }
-    ensures { result ≡ withLosses settings flight window fast late }
+    requires { Countable (mss settings) (losses_in settings flight window fast late) }
+    ensures { result ≡ with_losses settings flight window fast late }
 {
     let most = settings.mss();
     let losses = Losses {
@@ -125,7 +125,7 @@ pub(crate) fn moved(clock: Clock, probe: ProbeClock, dead: bool, t: u32) -> Cloc
 
 // The receiving half's numbers after a flush: no acks are noted, and no tell is wanted.
 pub(crate) fn cleared(arrival: Arrival) -> Arrival
-    ensures { result ≡ clearedOf arrival }
+    ensures { result ≡ cleared_of arrival }
 {
     Arrival {
         expected: arrival.expected,
@@ -145,7 +145,7 @@ pub(crate) struct Step {
 
 // The schedule in a clock.
 pub fn schedule_of(clock: Clock) -> Schedule
-    ensures { result ≡ scheduleOf clock }
+    ensures { result ≡ schedule_of clock }
 {
     Schedule {
         next: clock.next_flush,
@@ -176,7 +176,7 @@ pub(crate) fn step_of(paced: bool, clock: Clock, t: u32, interval: u16) -> Step
 
 // The clock with t as the current time.
 pub(crate) fn current(clock: Clock, t: u32) -> Clock
-    ensures { result ≡ currentOf clock t }
+    ensures { result ≡ current_of clock t }
 {
     let mut next = clock;
     next.current = t;

@@ -11,18 +11,18 @@ joined [] = []
 joined (x ∷ xs) = x ++ joined xs
 
 -- the length of each
-unfoldable pub lengthsOf : List (List ℕ) → List ℕ
-lengthsOf [] = []
-lengthsOf (x ∷ xs) = length x ∷ lengthsOf xs
+unfoldable pub lengths_of : List (List ℕ) → List ℕ
+lengths_of [] = []
+lengths_of (x ∷ xs) = length x ∷ lengths_of xs
 
 -- packed bytes, taken apart by their lengths
 unfoldable pub parts : List ℕ → List ℕ → List (List ℕ)
 parts s [] = []
 parts s (n ∷ ns) = take n s ∷ parts (drop n s) ns
 
-unfoldable pub addUp : List ℕ → ℕ
-addUp [] = 0
-addUp (n ∷ ns) = n + addUp ns
+unfoldable pub add_up : List ℕ → ℕ
+add_up [] = 0
+add_up (n ∷ ns) = n + add_up ns
 
 unfoldable pub largest : List ℕ → ℕ
 largest [] = 0

@@ -5,8 +5,8 @@ use Rattle.std.proofs.Common.{sym, ap, ◌∙◌, suc-mul, arith, leb-true, le-l
 use Rattle.std.proofs.lemmas.List.Edits.{sets}
 use Rattle.frames.specs.declared.Refusal.{Refusal}
 use Rattle.frames.specs.declared.Answer.TheVariants.{Written, Refused}
-use Rattle.frames.specs.Lists.{joined, lengthsOf, addUp, largest}
-use Rattle.frames.specs.Outcomes.{Outcome, refused, wrote, answer_of, bytesAfter, lengthsAfter, Gives, lengthOk, lengthsOk}
+use Rattle.frames.specs.Lists.{joined, lengths_of, add_up, largest}
+use Rattle.frames.specs.Outcomes.{Outcome, refused, wrote, answer_of, bytes_after, lengths_after, Gives, length_ok, lengths_ok}
 use Rattle.frames.specs.Reading.{same}
 
 pub and_left : (a b : Bool) → (a && b) ≡ true → a ≡ true
@@ -21,8 +21,8 @@ and_right false b e = cc
 pub refusing : (o : Outcome) (r : Refusal) (bytes lengths : List ℕ) → o ≡ refused r → Gives o bytes lengths (Refused r) bytes lengths
 refusing o r bytes lengths e = record {
   answer = sym (ap answer_of e);
-  bytes = sym (ap (λ (p : Outcome). bytesAfter p bytes) e);
-  lengths = sym (ap (λ (p : Outcome). lengthsAfter p lengths) e);
+  bytes = sym (ap (λ (p : Outcome). bytes_after p bytes) e);
+  lengths = sym (ap (λ (p : Outcome). lengths_after p lengths) e);
 }
 
 -- what a call that writes leaves
@@ -31,26 +31,26 @@ pub writing :
     o ≡ wrote l →
     n ≡ length l →
     bytes' ≡ sets bytes 0 (joined l) →
-    lengths' ≡ sets lengths 0 (lengthsOf l) →
+    lengths' ≡ sets lengths 0 (lengths_of l) →
     Gives o bytes lengths (Written n) bytes' lengths'
 writing o l n bytes lengths bytes' lengths' e q a b = record {
   answer = ap Written q ∙ sym (ap answer_of e);
-  bytes = a ∙ sym (ap (λ (p : Outcome). bytesAfter p bytes) e);
-  lengths = b ∙ sym (ap (λ (p : Outcome). lengthsAfter p lengths) e);
+  bytes = a ∙ sym (ap (λ (p : Outcome). bytes_after p bytes) e);
+  lengths = b ∙ sym (ap (λ (p : Outcome). lengths_after p lengths) e);
 }
 
-pub add-up-most : (mtu : ℕ) (ns : List ℕ) → lengthsOk mtu ns ≡ true → (addUp ns ≤ length ns * mtu) × (largest ns ≤ mtu)
-unfolding lengthsOk addUp largest
-add-up-most mtu [] e = (omega arith, omega arith)
-add-up-most mtu (n ∷ ns) e = go (lengthOk mtu n) refl e (λ f. add-up-most mtu ns f)
+pub add_up_most : (mtu : ℕ) (ns : List ℕ) → lengths_ok mtu ns ≡ true → (add_up ns ≤ length ns * mtu) × (largest ns ≤ mtu)
+unfolding lengths_ok add_up largest
+add_up_most mtu [] e = (omega arith, omega arith)
+add_up_most mtu (n ∷ ns) e = go (length_ok mtu n) refl e (λ f. add_up_most mtu ns f)
   where
-    go : (b : Bool) → lengthOk mtu n ≡ b → cond b (lengthsOk mtu ns) false ≡ true
-        → (lengthsOk mtu ns ≡ true → (addUp ns ≤ length ns * mtu) × (largest ns ≤ mtu))
-        → (n + addUp ns ≤ suc (length ns) * mtu) × (max n (largest ns) ≤ mtu)
+    go : (b : Bool) → length_ok mtu n ≡ b → cond b (lengths_ok mtu ns) false ≡ true
+        → (lengths_ok mtu ns ≡ true → (add_up ns ≤ length ns * mtu) × (largest ns ≤ mtu))
+        → (n + add_up ns ≤ suc (length ns) * mtu) × (max n (largest ns) ≤ mtu)
     go false q f ih = let z : ◌≡◌ {A = ℕ} 0 1 = cc in absurd (omega arith)
     go true q f ih =
         let m : n ≤ mtu = leb-true n mtu (and_right (leb 24 n) (leb n mtu) q) in
-        let r : (addUp ns ≤ length ns * mtu) × (largest ns ≤ mtu) = ih f in
+        let r : (add_up ns ≤ length ns * mtu) × (largest ns ≤ mtu) = ih f in
         (omega (arith, r.0, suc-mul (length ns) mtu), omega (arith, r.1))
 
 pub same_self : (l : List ℕ) → same l l ≡ true
@@ -58,10 +58,10 @@ unfolding same
 same_self [] = refl
 same_self (x ∷ l) = rw (eq-eqb x x refl) (same_self l)
 
-pub lengths-at : (mtu : ℕ) (ds : List (List ℕ)) → ((p : ℕ) → p < length ds → 24 ≤ length (get_or ds p []))
-    → ((p : ℕ) → p < length ds → length (get_or ds p []) ≤ mtu) → lengthsOk mtu (lengthsOf ds) ≡ true
-unfolding lengthsOk lengthsOf
-lengths-at mtu [] l m = refl
-lengths-at mtu (d ∷ ds) l m =
+pub lengths_at : (mtu : ℕ) (ds : List (List ℕ)) → ((p : ℕ) → p < length ds → 24 ≤ length (get_or ds p []))
+    → ((p : ℕ) → p < length ds → length (get_or ds p []) ≤ mtu) → lengths_ok mtu (lengths_of ds) ≡ true
+unfolding lengths_ok lengths_of
+lengths_at mtu [] l m = refl
+lengths_at mtu (d ∷ ds) l m =
     rw (le-leb 24 (length d) (l 0 (omega arith)), le-leb (length d) mtu (m 0 (omega arith)))
-    (lengths-at mtu ds (λ p h. l (suc p) (omega arith)) (λ p h. m (suc p) (omega arith)))
+    (lengths_at mtu ds (λ p h. l (suc p) (omega arith)) (λ p h. m (suc p) (omega arith)))

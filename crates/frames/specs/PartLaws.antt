@@ -6,10 +6,10 @@ use Rattle.std.proofs.lemmas.Bool.{lt-leb}
 use Rattle.std.proofs.Math.ListN.{get_or-eq_default}
 use Rattle.std.proofs.lemmas.List.Edits.{sets}
 use Rattle.wire.specs.LittleEndian.{AllBytes}
-use Rattle.wire.specs.Stores.{sets-append}
-use Rattle.frames.specs.Lists.{listed, joined, lengthsOf, parts, addUp, largest}
-use Rattle.frames.specs.Outcomes.{lengthOk, lengthsOk}
-use Rattle.frames.specs.PlaceLaws.{length-listed, listed_next}
+use Rattle.wire.specs.Stores.{sets_append}
+use Rattle.frames.specs.Lists.{listed, joined, lengths_of, parts, add_up, largest}
+use Rattle.frames.specs.Outcomes.{length_ok, lengths_ok}
+use Rattle.frames.specs.PlaceLaws.{length_listed, listed_next}
 
 -- ---- packed lengths
 
@@ -20,126 +20,126 @@ less n r m h = go (leb r (m - n)) refl
     go true e = let l : r ≤ m - n = leb-true r (m - n) e in le-leb (n + r) m (omega arith)
     go false e = let l : m - n < r = leb-false r (m - n) e in lt-leb (n + r) m (omega arith)
 
-add-up-cons : (ns : List ℕ) (i : ℕ) → i < length ns → addUp (drop i ns) ≡ get_or ns i 0 + addUp (drop (i + 1) ns)
-unfolding addUp
-add-up-cons ns i h = rw (add-one, drop-cons ns i 0)
+add_up_cons : (ns : List ℕ) (i : ℕ) → i < length ns → add_up (drop i ns) ≡ get_or ns i 0 + add_up (drop (i + 1) ns)
+unfolding add_up
+add_up_cons ns i h = rw (add-one, drop-cons ns i 0)
 
 pub packed_step : (ns : List ℕ) (i n left : ℕ) → n ≡ get_or ns i 0 → i < length ns → n ≤ left
-    → leb (addUp (drop i ns)) left ≡ leb (addUp (drop (i + 1) ns)) (left - n)
-packed_step ns i n left e h l = rw (add-up-cons ns i h, ← e) (less n (addUp (drop (i + 1) ns)) left l)
+    → leb (add_up (drop i ns)) left ≡ leb (add_up (drop (i + 1) ns)) (left - n)
+packed_step ns i n left e h l = rw (add_up_cons ns i h, ← e) (less n (add_up (drop (i + 1) ns)) left l)
 
-pub packed-short : (ns : List ℕ) (i n left : ℕ) → n ≡ get_or ns i 0 → i < length ns → left < n → leb (addUp (drop i ns)) left ≡ false
-packed-short ns i n left e h l = rw (add-up-cons ns i h, ← e) (lt-leb (n + addUp (drop (i + 1) ns)) left (omega arith))
+pub packed_short : (ns : List ℕ) (i n left : ℕ) → n ≡ get_or ns i 0 → i < length ns → left < n → leb (add_up (drop i ns)) left ≡ false
+packed_short ns i n left e h l = rw (add_up_cons ns i h, ← e) (lt-leb (n + add_up (drop (i + 1) ns)) left (omega arith))
 
-pub packed-end : (ns : List ℕ) (i left : ℕ) → length ns ≤ i → leb (addUp (drop i ns)) left ≡ true
-unfolding addUp
-packed-end ns i left h = rw (drop_of_length-le ns h) (le-leb 0 left (omega arith))
+pub packed_end : (ns : List ℕ) (i left : ℕ) → length ns ≤ i → leb (add_up (drop i ns)) left ≡ true
+unfolding add_up
+packed_end ns i left h = rw (drop_of_length-le ns h) (le-leb 0 left (omega arith))
 
-pub lengths-step : (mtu : ℕ) (ns : List ℕ) (i : ℕ) → i < length ns → lengthOk mtu (get_or ns i 0) ≡ true
-    → lengthsOk mtu (drop i ns) ≡ lengthsOk mtu (drop (i + 1) ns)
-unfolding lengthsOk
-lengths-step mtu ns i h e = rw (add-one, drop-cons ns i 0, e)
+pub lengths_step : (mtu : ℕ) (ns : List ℕ) (i : ℕ) → i < length ns → length_ok mtu (get_or ns i 0) ≡ true
+    → lengths_ok mtu (drop i ns) ≡ lengths_ok mtu (drop (i + 1) ns)
+unfolding lengths_ok
+lengths_step mtu ns i h e = rw (add-one, drop-cons ns i 0, e)
 
-pub lengths-bad : (mtu : ℕ) (ns : List ℕ) (i : ℕ) → i < length ns → lengthOk mtu (get_or ns i 0) ≡ false → lengthsOk mtu (drop i ns) ≡ false
-unfolding lengthsOk
-lengths-bad mtu ns i h e = rw (drop-cons ns i 0, e)
+pub lengths_bad : (mtu : ℕ) (ns : List ℕ) (i : ℕ) → i < length ns → length_ok mtu (get_or ns i 0) ≡ false → lengths_ok mtu (drop i ns) ≡ false
+unfolding lengths_ok
+lengths_bad mtu ns i h e = rw (drop-cons ns i 0, e)
 
-pub lengths-end : (mtu : ℕ) (ns : List ℕ) (i : ℕ) → length ns ≤ i → lengthsOk mtu (drop i ns) ≡ true
-unfolding lengthsOk
-lengths-end mtu ns i h = rw (drop_of_length-le ns h)
+pub lengths_end : (mtu : ℕ) (ns : List ℕ) (i : ℕ) → length ns ≤ i → lengths_ok mtu (drop i ns) ≡ true
+unfolding lengths_ok
+lengths_end mtu ns i h = rw (drop_of_length-le ns h)
 
 pub largest_step : (ns : List ℕ) (i : ℕ) → i < length ns → largest (drop i ns) ≡ max (get_or ns i 0) (largest (drop (i + 1) ns))
 unfolding largest
 largest_step ns i h = rw (add-one, drop-cons ns i 0)
 
-pub largest-end : (ns : List ℕ) (i : ℕ) → length ns ≤ i → largest (drop i ns) ≡ 0
+pub largest_end : (ns : List ℕ) (i : ℕ) → length ns ≤ i → largest (drop i ns) ≡ 0
 unfolding largest
-largest-end ns i h = rw (drop_of_length-le ns h)
+largest_end ns i h = rw (drop_of_length-le ns h)
 
 -- ---- the parts that packed lengths say
 
-pub length-parts : (s ns : List ℕ) → length (parts s ns) ≡ length ns
+pub length_parts : (s ns : List ℕ) → length (parts s ns) ≡ length ns
 unfolding parts
-length-parts s [] = refl
-length-parts s (n ∷ ns) = ap suc (length-parts (drop n s) ns)
+length_parts s [] = refl
+length_parts s (n ∷ ns) = ap suc (length_parts (drop n s) ns)
 
-pub part_at : (s ns : List ℕ) (p : ℕ) → p < length ns → get_or (parts s ns) p [] ≡ take (get_or ns p 0) (drop (addUp (take p ns)) s)
-unfolding parts addUp
+pub part_at : (s ns : List ℕ) (p : ℕ) → p < length ns → get_or (parts s ns) p [] ≡ take (get_or ns p 0) (drop (add_up (take p ns)) s)
+unfolding parts add_up
 part_at s [] p h = absurd (not-suc-le-zero h)
 part_at s (n ∷ ns) zero h = refl
 part_at s (n ∷ ns) (suc p) h =
-    part_at (drop n s) ns p (omega arith) ∙ ap (take (get_or ns p 0)) (drop-drop (addUp (take p ns)) n s)
+    part_at (drop n s) ns p (omega arith) ∙ ap (take (get_or ns p 0)) (drop-drop (add_up (take p ns)) n s)
 
-pub add-up-next : (ns : List ℕ) (p : ℕ) → p < length ns → addUp (take (p + 1) ns) ≡ addUp (take p ns) + get_or ns p 0
-unfolding addUp
-add-up-next [] p h = absurd (not-suc-le-zero h)
-add-up-next (n ∷ ns) zero h = omega arith
-add-up-next (n ∷ ns) (suc p) h =
-    let e : addUp (take (p + 1) ns) ≡ addUp (take p ns) + get_or ns p 0 = add-up-next ns p (omega arith) in
+pub add_up_next : (ns : List ℕ) (p : ℕ) → p < length ns → add_up (take (p + 1) ns) ≡ add_up (take p ns) + get_or ns p 0
+unfolding add_up
+add_up_next [] p h = absurd (not-suc-le-zero h)
+add_up_next (n ∷ ns) zero h = omega arith
+add_up_next (n ∷ ns) (suc p) h =
+    let e : add_up (take (p + 1) ns) ≡ add_up (take p ns) + get_or ns p 0 = add_up_next ns p (omega arith) in
     let f : suc p + 1 ≡ suc (p + 1) = omega arith in
     rw f (omega arith)
 
-pub add-up-le : (ns : List ℕ) (p : ℕ) → addUp (take p ns) ≤ addUp ns
-unfolding addUp
-add-up-le [] zero = omega arith
-add-up-le [] (suc p) = omega arith
-add-up-le (n ∷ ns) zero = omega arith
-add-up-le (n ∷ ns) (suc p) = let e : addUp (take p ns) ≤ addUp ns = add-up-le ns p in omega arith
+pub add_up_le : (ns : List ℕ) (p : ℕ) → add_up (take p ns) ≤ add_up ns
+unfolding add_up
+add_up_le [] zero = omega arith
+add_up_le [] (suc p) = omega arith
+add_up_le (n ∷ ns) zero = omega arith
+add_up_le (n ∷ ns) (suc p) = let e : add_up (take p ns) ≤ add_up ns = add_up_le ns p in omega arith
 
 pub length_part : (s : List ℕ) (from n : ℕ) → from + n ≤ length s → length (take n (drop from s)) ≡ n
 length_part s from n h = simp (length-take, length-drop) (omega arith)
 
-pub getD-largest : (ns : List ℕ) (p : ℕ) → get_or ns p 0 ≤ largest ns
+pub get_d_largest : (ns : List ℕ) (p : ℕ) → get_or ns p 0 ≤ largest ns
 unfolding largest
-getD-largest [] p = omega arith
-getD-largest (n ∷ ns) zero = omega arith
-getD-largest (n ∷ ns) (suc p) = let h : get_or ns p 0 ≤ largest ns = getD-largest ns p in omega arith
+get_d_largest [] p = omega arith
+get_d_largest (n ∷ ns) zero = omega arith
+get_d_largest (n ∷ ns) (suc p) = let h : get_or ns p 0 ≤ largest ns = get_d_largest ns p in omega arith
 
-pub size-le : (ds : List (List ℕ)) (p : ℕ) → length (get_or ds p []) ≤ largest (lengthsOf ds)
-unfolding lengthsOf largest
-size-le [] p = omega arith
-size-le (d ∷ ds) zero = omega arith
-size-le (d ∷ ds) (suc p) = let h : length (get_or ds p []) ≤ largest (lengthsOf ds) = size-le ds p in omega arith
+pub size_le : (ds : List (List ℕ)) (p : ℕ) → length (get_or ds p []) ≤ largest (lengths_of ds)
+unfolding lengths_of largest
+size_le [] p = omega arith
+size_le (d ∷ ds) zero = omega arith
+size_le (d ∷ ds) (suc p) = let h : length (get_or ds p []) ≤ largest (lengths_of ds) = size_le ds p in omega arith
 
-pub largest-le : (m : ℕ) (ds : List (List ℕ)) → ((p : ℕ) → p < length ds → length (get_or ds p []) ≤ m) → largest (lengthsOf ds) ≤ m
-unfolding lengthsOf largest
-largest-le m [] h = omega arith
-largest-le m (d ∷ ds) h =
+pub largest_le : (m : ℕ) (ds : List (List ℕ)) → ((p : ℕ) → p < length ds → length (get_or ds p []) ≤ m) → largest (lengths_of ds) ≤ m
+unfolding lengths_of largest
+largest_le m [] h = omega arith
+largest_le m (d ∷ ds) h =
     let a : length d ≤ m = h 0 (omega arith) in
-    let b : largest (lengthsOf ds) ≤ m = largest-le m ds (λ p l. h (suc p) (omega arith)) in
+    let b : largest (lengths_of ds) ≤ m = largest_le m ds (λ p l. h (suc p) (omega arith)) in
     omega arith
 
-pub largest-ge : (m : ℕ) (ds : List (List ℕ)) → 1 ≤ length ds → ((p : ℕ) → p < length ds → m ≤ length (get_or ds p []))
-    → m ≤ largest (lengthsOf ds)
-unfolding lengthsOf largest
-largest-ge m [] l h = absurd (omega arith)
-largest-ge m (d ∷ ds) l h = let a : m ≤ length d = h 0 (omega arith) in omega arith
+pub largest_ge : (m : ℕ) (ds : List (List ℕ)) → 1 ≤ length ds → ((p : ℕ) → p < length ds → m ≤ length (get_or ds p []))
+    → m ≤ largest (lengths_of ds)
+unfolding lengths_of largest
+largest_ge m [] l h = absurd (omega arith)
+largest_ge m (d ∷ ds) l h = let a : m ≤ length d = h 0 (omega arith) in omega arith
 
 -- ---- what is stored one behind the other
 
-pub joined-append : (xs ys : List (List ℕ)) → joined (xs ++ ys) ≡ joined xs ++ joined ys
+pub joined_append : (xs ys : List (List ℕ)) → joined (xs ++ ys) ≡ joined xs ++ joined ys
 unfolding joined
-joined-append [] ys = refl
-joined-append (x ∷ xs) ys = ap (λ (l : List ℕ). x ++ l) (joined-append xs ys) ∙ sym (append_assoc x (joined xs) (joined ys))
+joined_append [] ys = refl
+joined_append (x ∷ xs) ys = ap (λ (l : List ℕ). x ++ l) (joined_append xs ys) ∙ sym (append_assoc x (joined xs) (joined ys))
 
-pub joined-next : (f : ℕ → List ℕ) (n : ℕ) → joined (listed f (n + 1)) ≡ joined (listed f n) ++ f n
+pub joined_next : (f : ℕ → List ℕ) (n : ℕ) → joined (listed f (n + 1)) ≡ joined (listed f n) ++ f n
 unfolding joined
-joined-next f n = ap joined (listed_next f n) ∙ joined-append (listed f n) (f n ∷ []) ∙ ap (λ (l : List ℕ). joined (listed f n) ++ l)
+joined_next f n = ap joined (listed_next f n) ∙ joined_append (listed f n) (f n ∷ []) ∙ ap (λ (l : List ℕ). joined (listed f n) ++ l)
     (append-nil (f n))
 
-lengths-append : (xs ys : List (List ℕ)) → lengthsOf (xs ++ ys) ≡ lengthsOf xs ++ lengthsOf ys
-unfolding lengthsOf
-lengths-append [] ys = refl
-lengths-append (x ∷ xs) ys = ap (λ (l : List ℕ). length x ∷ l) (lengths-append xs ys)
+lengths_append : (xs ys : List (List ℕ)) → lengths_of (xs ++ ys) ≡ lengths_of xs ++ lengths_of ys
+unfolding lengths_of
+lengths_append [] ys = refl
+lengths_append (x ∷ xs) ys = ap (λ (l : List ℕ). length x ∷ l) (lengths_append xs ys)
 
-pub length-lengths : (xs : List (List ℕ)) → length (lengthsOf xs) ≡ length xs
-unfolding lengthsOf
-length-lengths [] = refl
-length-lengths (x ∷ xs) = ap suc (length-lengths xs)
+pub length_lengths : (xs : List (List ℕ)) → length (lengths_of xs) ≡ length xs
+unfolding lengths_of
+length_lengths [] = refl
+length_lengths (x ∷ xs) = ap suc (length_lengths xs)
 
-pub lengths-next : (f : ℕ → List ℕ) (n : ℕ) → lengthsOf (listed f (n + 1)) ≡ lengthsOf (listed f n) ++ (length (f n) ∷ [])
-unfolding lengthsOf
-lengths-next f n = ap lengthsOf (listed_next f n) ∙ lengths-append (listed f n) (f n ∷ [])
+pub lengths_next : (f : ℕ → List ℕ) (n : ℕ) → lengths_of (listed f (n + 1)) ≡ lengths_of (listed f n) ++ (length (f n) ∷ [])
+unfolding lengths_of
+lengths_next f n = ap lengths_of (listed_next f n) ∙ lengths_append (listed f n) (f n ∷ [])
 
 -- one more part behind those that stand there
 pub stored : (f : ℕ → List ℕ) (p at : ℕ) (out₀ out next : List ℕ) → out ≡ sets out₀ 0 (joined (listed f p))
@@ -147,32 +147,32 @@ pub stored : (f : ℕ → List ℕ) (p at : ℕ) (out₀ out next : List ℕ) �
     → next ≡ sets out at (f p) → next ≡ sets out₀ 0 (joined (listed f (p + 1)))
 stored f p at out₀ out next e l s =
     s ∙ ap₂ (λ (o : List ℕ) (a : ℕ). sets o a (f p)) e (l ∙ sym (zero-add (length (joined (listed f p)))))
-    ∙ sym (sets-append out₀ 0 (joined (listed f p)) (f p)) ∙ ap (sets out₀ 0) (sym (joined-next f p))
+    ∙ sym (sets_append out₀ 0 (joined (listed f p)) (f p)) ∙ ap (sets out₀ 0) (sym (joined_next f p))
 
-pub noted : (f : ℕ → List ℕ) (p v : ℕ) (out₀ out : List ℕ) → out ≡ sets out₀ 0 (lengthsOf (listed f p)) → v ≡ length (f p)
-    → set out p v ≡ sets out₀ 0 (lengthsOf (listed f (p + 1)))
+pub noted : (f : ℕ → List ℕ) (p v : ℕ) (out₀ out : List ℕ) → out ≡ sets out₀ 0 (lengths_of (listed f p)) → v ≡ length (f p)
+    → set out p v ≡ sets out₀ 0 (lengths_of (listed f (p + 1)))
 noted f p v out₀ out e l =
     ap₂ (λ (o : List ℕ) (w : ℕ). set o p w) e l
-    ∙ ap (λ (q : ℕ). sets (sets out₀ 0 (lengthsOf (listed f p))) q (length (f p) ∷ []))
-    (sym (zero-add (length (lengthsOf (listed f p))) ∙ length-lengths (listed f p) ∙ length-listed f p))
-    ∙ sym (sets-append out₀ 0 (lengthsOf (listed f p)) (length (f p) ∷ [])) ∙ ap (sets out₀ 0) (sym (lengths-next f p))
+    ∙ ap (λ (q : ℕ). sets (sets out₀ 0 (lengths_of (listed f p))) q (length (f p) ∷ []))
+    (sym (zero-add (length (lengths_of (listed f p))) ∙ length_lengths (listed f p) ∙ length_listed f p))
+    ∙ sym (sets_append out₀ 0 (lengths_of (listed f p)) (length (f p) ∷ [])) ∙ ap (sets out₀ 0) (sym (lengths_next f p))
 
-pub lengths-parts : (s ns : List ℕ) → addUp ns ≤ length s → lengthsOf (parts s ns) ≡ ns
-unfolding lengthsOf parts addUp
-lengths-parts s [] h = refl
-lengths-parts s (n ∷ ns) h =
-    ap₂ {C = List ℕ} (λ m r. m ∷ r) (length_part s 0 n (omega arith)) (lengths-parts (drop n s) ns (rest s n (addUp ns) h))
+pub lengths_parts : (s ns : List ℕ) → add_up ns ≤ length s → lengths_of (parts s ns) ≡ ns
+unfolding lengths_of parts add_up
+lengths_parts s [] h = refl
+lengths_parts s (n ∷ ns) h =
+    ap₂ {C = List ℕ} (λ m r. m ∷ r) (length_part s 0 n (omega arith)) (lengths_parts (drop n s) ns (rest s n (add_up ns) h))
   where
     rest : (s : List ℕ) (n r : ℕ) → n + r ≤ length s → r ≤ length (drop n s)
     rest s n r h = simp length-drop (omega arith)
 
-pub length-joined-next : (f : ℕ → List ℕ) (n : ℕ) → length (joined (listed f (n + 1))) ≡ length (joined (listed f n)) + length (f n)
-length-joined-next f n = ap length (joined-next f n) ∙ length-append (joined (listed f n)) (f n)
+pub length_joined_next : (f : ℕ → List ℕ) (n : ℕ) → length (joined (listed f (n + 1))) ≡ length (joined (listed f n)) + length (f n)
+length_joined_next f n = ap length (joined_next f n) ∙ length-append (joined (listed f n)) (f n)
 
 -- ---- bytes
 
-take-bytes : (n : ℕ) (s : List ℕ) → AllBytes s → AllBytes (take n s)
-take-bytes n s h i = go (ltb i n) refl
+take_bytes : (n : ℕ) (s : List ℕ) → AllBytes s → AllBytes (take n s)
+take_bytes n s h i = go (ltb i n) refl
   where
     go : (b : Bool) → ltb i n ≡ b → get_or (take n s) i 0 < 256
     go true e = rw (get_or-take n s i 0 (ltb-true i n e)) (h i)
@@ -181,15 +181,15 @@ take-bytes n s h i = go (ltb i n) refl
         let m : length (take n s) ≤ i = simp length-take (omega arith) in
         rw (get_or-eq_default (take n s) 0 m) (omega arith)
 
-drop-bytes : (n : ℕ) (s : List ℕ) → AllBytes s → AllBytes (drop n s)
-drop-bytes n s h i = rw (get_or-drop n s i 0) (h (n + i))
+drop_bytes : (n : ℕ) (s : List ℕ) → AllBytes s → AllBytes (drop n s)
+drop_bytes n s h i = rw (get_or-drop n s i 0) (h (n + i))
 
 pub part_bytes : (s : List ℕ) (at n : ℕ) → AllBytes s → AllBytes (take n (drop at s))
-part_bytes s at n h = take-bytes n (drop at s) (drop-bytes at s h)
+part_bytes s at n h = take_bytes n (drop at s) (drop_bytes at s h)
 
 -- packed bytes are bytes part by part
-pub parts-bytes : (s ns : List ℕ) → AllBytes s → (p x : ℕ) → get_or (get_or (parts s ns) p []) x 0 < 256
+pub parts_bytes : (s ns : List ℕ) → AllBytes s → (p x : ℕ) → get_or (get_or (parts s ns) p []) x 0 < 256
 unfolding parts
-parts-bytes s [] h p x = omega arith
-parts-bytes s (n ∷ ns) h zero x = take-bytes n s h x
-parts-bytes s (n ∷ ns) h (suc p) x = parts-bytes (drop n s) ns (drop-bytes n s h) p x
+parts_bytes s [] h p x = omega arith
+parts_bytes s (n ∷ ns) h zero x = take_bytes n s h x
+parts_bytes s (n ∷ ns) h (suc p) x = parts_bytes (drop n s) ns (drop_bytes n s h) p x

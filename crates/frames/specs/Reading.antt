@@ -4,25 +4,25 @@ use Rattle.std.specs.Prelude.{Bool, true, false, cond, ◌&&◌, ◌||◌, not, 
 use Rattle.wire.specs.LittleEndian.{number_at}
 use Rattle.galois.specs.Field.{plus, mul, power, inverse}
 use Rattle.frames.specs.declared.Refusal.TheVariants.{ShortPart, SettingOutOfRange, NotAGroup, TooFewFrames}
-use Rattle.frames.specs.Lists.{listed, parts, lengthsOf, total, other, every, different}
+use Rattle.frames.specs.Lists.{listed, parts, lengths_of, total, other, every, different}
 use Rattle.frames.specs.Frames.{weight, type_at, frame_at}
-use Rattle.frames.specs.Outcomes.{Outcome, refused, wrote, settingsOk, lentOk, lengthsOk}
+use Rattle.frames.specs.Outcomes.{Outcome, refused, wrote, settings_ok, lent_ok, lengths_ok}
 
 -- ---- a frame by itself
 
-abbrev pub sequenceOf : List ℕ → ℕ
-sequenceOf f = number_at 4 f 0
+abbrev pub sequence_of : List ℕ → ℕ
+sequence_of f = number_at 4 f 0
 
 -- a group of k datagrams has k + 2 sequences
 unfoldable pub group_of : ℕ → List ℕ → ℕ
-group_of k f = sequenceOf f / (k + 2)
+group_of k f = sequence_of f / (k + 2)
 
 unfoldable pub place_of : ℕ → List ℕ → ℕ
-place_of k f = sequenceOf f % (k + 2)
+place_of k f = sequence_of f % (k + 2)
 
 -- 32 to mtu + 8 bytes, of group n, of the type for its place, and of the right len where it is a data frame
-unfoldable pub frameOk : ℕ → ℕ → ℕ → List ℕ → Bool
-frameOk k mtu n f =
+unfoldable pub frame_ok : ℕ → ℕ → ℕ → List ℕ → Bool
+frame_ok k mtu n f =
     leb 32 (length f)
     && leb (length f) (mtu + 8)
     && eqb (group_of k f) n
@@ -32,14 +32,14 @@ frameOk k mtu n f =
 -- ---- what is held, and what is found
 
 -- the group of the first frame
-unfoldable pub firstGroup : ℕ → List (List ℕ) → ℕ
-firstGroup k [] = 0
-firstGroup k (f ∷ fs) = group_of k f
+unfoldable pub first_group : ℕ → List (List ℕ) → ℕ
+first_group k [] = 0
+first_group k (f ∷ fs) = group_of k f
 
 -- the shard of the first frame at place p; empty where there is none
-unfoldable pub heldShard : ℕ → List (List ℕ) → ℕ → List ℕ
-heldShard k [] p = []
-heldShard k (f ∷ fs) p = cond (eqb (place_of k f) p) (drop 6 f) (heldShard k fs p)
+unfoldable pub held_shard : ℕ → List (List ℕ) → ℕ → List ℕ
+held_shard k [] p = []
+held_shard k (f ∷ fs) p = cond (eqb (place_of k f) p) (drop 6 f) (held_shard k fs p)
 
 -- of the shards b one is held at place p
 abbrev pub has : (ℕ → List ℕ) → ℕ → Bool
@@ -64,11 +64,11 @@ byte_at k b i x = cond (has b i) (get_or (b i) x 0) (solved k b i (other (has b)
 unfoldable pub len_at : ℕ → (ℕ → List ℕ) → ℕ → ℕ
 len_at k b i = byte_at k b i 0 + 256 * byte_at k b i 1
 
-unfoldable pub datagramAt : ℕ → (ℕ → List ℕ) → ℕ → List ℕ
-datagramAt k b i = listed (λ x. byte_at k b i (x + 2)) (len_at k b i - 2)
+unfoldable pub datagram_at : ℕ → (ℕ → List ℕ) → ℕ → List ℕ
+datagram_at k b i = listed (λ x. byte_at k b i (x + 2)) (len_at k b i - 2)
 
 unfoldable pub found : ℕ → (ℕ → List ℕ) → List (List ℕ)
-found k b = listed (datagramAt k b) k
+found k b = listed (datagram_at k b) k
 
 -- ---- the group of what is found
 
@@ -87,20 +87,20 @@ holds k s ds f = same f (frame_at s ds (place_of k f))
 
 -- frames of group n that each pass by themselves: 22 for fewer than k different sequences, then 21 unless the datagrams found have
 -- 24 to mtu bytes and their group holds every frame, or these datagrams
-unfoldable pub readGroup : ℕ → ℕ → ℕ → List (List ℕ) → Outcome
-readGroup k mtu n fs =
-    cond (ltb (different (map sequenceOf fs)) k) (refused TooFewFrames)
-    (cond (not (lengthsOk mtu (lengthsOf (found k (heldShard k fs))) && every (holds k (n * (k + 2)) (found k (heldShard k fs))) fs))
+unfoldable pub read_group : ℕ → ℕ → ℕ → List (List ℕ) → Outcome
+read_group k mtu n fs =
+    cond (ltb (different (map sequence_of fs)) k) (refused TooFewFrames)
+    (cond (not (lengths_ok mtu (lengths_of (found k (held_shard k fs))) && every (holds k (n * (k + 2)) (found k (held_shard k fs))) fs))
     (refused NotAGroup)
-    (wrote (found k (heldShard k fs))))
+    (wrote (found k (held_shard k fs))))
 
 -- 21 for a frame that does not pass by itself, or is of another group than the first
-unfoldable pub readFrames : ℕ → ℕ → List (List ℕ) → Outcome
-readFrames k mtu fs = cond (not (every (frameOk k mtu (firstGroup k fs)) fs)) (refused NotAGroup) (readGroup k mtu (firstGroup k fs) fs)
+unfoldable pub read_frames : ℕ → ℕ → List (List ℕ) → Outcome
+read_frames k mtu fs = cond (not (every (frame_ok k mtu (first_group k fs)) fs)) (refused NotAGroup) (read_group k mtu (first_group k fs) fs)
 
 -- the frames that the bytes s with these lengths are: 7, 12, then as above
 unfoldable pub read_of : ℕ → ℕ → List ℕ → List ℕ → ℕ → ℕ → Outcome
 read_of k mtu s lengths room slots =
-    cond (not (lentOk (length s) lengths 10 mtu room slots)) (refused ShortPart)
-    (cond (not (settingsOk k mtu)) (refused SettingOutOfRange)
-    (readFrames k mtu (parts s lengths)))
+    cond (not (lent_ok (length s) lengths 10 mtu room slots)) (refused ShortPart)
+    (cond (not (settings_ok k mtu)) (refused SettingOutOfRange)
+    (read_frames k mtu (parts s lengths)))

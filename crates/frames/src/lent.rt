@@ -1,7 +1,7 @@
 // The tests that the writer and the reader share.
 ghost use Rattle.std.specs.Prelude.{◌≡◌, ◌*◌, ◌<◌, leb};
-ghost use Rattle.frames.specs.Lists.{addUp};
-ghost use Rattle.frames.specs.Outcomes.{settingsOk, lentOk, lengthsOk};
+ghost use Rattle.frames.specs.Lists.{add_up};
+ghost use Rattle.frames.specs.Outcomes.{settings_ok, lent_ok, lengths_ok};
 
 use crate::Frames;
 use protocol::Protocol;
@@ -14,7 +14,7 @@ pub fn wide(x: u16) -> usize
 
 // The lengths add up to no more than size.
 fn packed(size: usize, lengths: &[u16]) -> bool
-    ensures { result ≡ leb (addUp lengths.now) size }
+    ensures { result ≡ leb (add_up lengths.now) size }
 {
     let mut left = size;
     let mut i = 0;
@@ -39,14 +39,14 @@ pub fn lent_ok(
     slots: usize,
 ) -> bool
     requires { n * each < 1099511627776 }
-    ensures { result ≡ lentOk size lengths.now n each room slots }
+    ensures { result ≡ lent_ok size lengths.now n each room slots }
 {
     packed(size, lengths) & (n * each <= room) & (n <= slots)
 }
 
 // 1 to 10 datagrams in a group, and a link's mtu.
 pub fn settings_ok(k: usize, mtu: usize) -> bool
-    ensures { result ≡ settingsOk k mtu }
+    ensures { result ≡ settings_ok k mtu }
 {
     let least = Protocol::MTU_LEAST as usize;
     let most = Protocol::MTU_MOST as usize;
@@ -55,7 +55,7 @@ pub fn settings_ok(k: usize, mtu: usize) -> bool
 
 // Each length is 24 to mtu.
 pub fn lengths_ok(mtu: usize, lengths: &[u16]) -> bool
-    ensures { result ≡ lengthsOk mtu lengths.now }
+    ensures { result ≡ lengths_ok mtu lengths.now }
 {
     let mut i = 0;
     while i < lengths.len() {

@@ -10,33 +10,33 @@ use Rattle.session.specs.Updating.{checking}
 use Rattle.control.specs.declared.Link.{Link}
 use Rattle.answers.specs.declared.Count.{Count}
 use Rattle.answers.specs.declared.Time.{Time}
-use Rattle.promises.specs.Parts.{Parts, lentLengths}
-use Rattle.promises.specs.Outcomes.{tellsWith, showsWith, checksWith, tells, checks, shows}
-use Rattle.promises.specs.Answers.{countOutcome, timeOutcome}
-use Rattle.promises.specs.AnswerLaws.{count-number, time-number}
+use Rattle.promises.specs.Parts.{Parts, lent_lengths}
+use Rattle.promises.specs.Outcomes.{tells_with, shows_with, checks_with, tells, checks, shows}
+use Rattle.promises.specs.Answers.{count_outcome, time_outcome}
+use Rattle.promises.specs.AnswerLaws.{count_number_lem, time_number_lem}
 use Rattle.promises.specs.Promises.{SizePromise, CheckPromise}
-use Rattle.from_cores.proofs.Gathered.{Gathers, outcome-in}
+use Rattle.from_cores.proofs.Gathered.{Gathers, outcome_in}
 
 module _ (l : Link) (p : Parts) (records : List Record) (n : ℕ) (g : Gathers l p records n) where
-  pub size-promised : (a : Count) → countOutcome a ≡ tellsWith l records p.acks (lentLengths n p.sendPool p.receivePool p.acks)
+  pub size_promised : (a : Count) → count_outcome a ≡ tells_with l records p.acks (lent_lengths n p.send_pool p.receive_pool p.acks)
       → SizePromise l p a
-  unfolding tellsWith
-  size-promised a e =
-      let answer = e ∙ outcome-in l p records n g telling in
-      record { answer = answer; number = count-number a (tells l p) answer }
+  unfolding tells_with
+  size_promised a e =
+      let answer = e ∙ outcome_in l p records n g telling in
+      record { answer = answer; number = count_number_lem a (tells l p) answer }
 
-  pub check-promised : (t : ℕ) (a : Time)
-      → timeOutcome a ≡ checksWith l records p.acks (lentLengths n p.sendPool p.receivePool p.acks) t → CheckPromise t l p a
-  unfolding checksWith
-  check-promised t a e =
-      let answer = e ∙ outcome-in l p records n g (λ (s : State). done (checking s t)) in
-      record { answer = answer; number = time-number a (checks l p t) answer }
+  pub check_promised : (t : ℕ) (a : Time)
+      → time_outcome a ≡ checks_with l records p.acks (lent_lengths n p.send_pool p.receive_pool p.acks) t → CheckPromise t l p a
+  unfolding checks_with
+  check_promised t a e =
+      let answer = e ∙ outcome_in l p records n g (λ (s : State). done (checking s t)) in
+      record { answer = answer; number = time_number_lem a (checks l p t) answer }
 
-  shown-in : showsWith l records p.acks (lentLengths n p.sendPool p.receivePool p.acks) ≡ shows l p
-  unfolding showsWith
-  shown-in = outcome-in l p records n g showing
+  shown_in : shows_with l records p.acks (lent_lengths n p.send_pool p.receive_pool p.acks) ≡ shows l p
+  unfolding shows_with
+  shown_in = outcome_in l p records n g showing
 
   -- what holds of the core's outcome of showing holds of the promise's
-  pub shows-promised : (P : Outcome Part → Type 0)
-      → P (showsWith l records p.acks (lentLengths n p.sendPool p.receivePool p.acks)) → P (shows l p)
-  shows-promised P h = subst P shown-in h
+  pub shows_promised : (P : Outcome Part → Type 0)
+      → P (shows_with l records p.acks (lent_lengths n p.send_pool p.receive_pool p.acks)) → P (shows l p)
+  shows_promised P h = subst P shown_in h

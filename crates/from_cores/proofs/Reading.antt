@@ -9,13 +9,13 @@ use Rattle.session.specs.State.{Outcome, refused, done}
 use Rattle.session.specs.Reading.{Reads, reading}
 use Rattle.control.specs.declared.Link.{Link}
 use Rattle.answers.specs.declared.Count.{Count}
-use Rattle.promises.specs.Parts.{Parts, lentLengths}
-use Rattle.promises.specs.Outcomes.{readsWith, reads}
+use Rattle.promises.specs.Parts.{Parts, lent_lengths}
+use Rattle.promises.specs.Outcomes.{reads_with, reads}
 use Rattle.promises.specs.Answers.{Counts}
-use Rattle.promises.specs.AnswerLaws.{counts-number}
+use Rattle.promises.specs.AnswerLaws.{counts_number}
 use Rattle.promises.specs.Promises.{ReadPromise, ReadLeaves}
 use Rattle.promises.specs.Cores.{ReadCore}
-use Rattle.from_cores.proofs.Gathered.{Gathers, outcome-in, stands-in}
+use Rattle.from_cores.proofs.Gathered.{Gathers, outcome_in, stands_in}
 
 module _ (l : Link) (p : Parts) (records : List Record) (n : ℕ) (g : Gathers l p records n) (buffer : List ℕ) (a : Count) (l' : Link)
     (buffer' : List ℕ) where
@@ -29,19 +29,19 @@ module _ (l : Link) (p : Parts) (records : List Record) (n : ℕ) (g : Gathers l
   leaves : (o : Outcome Reads) → Left o → ReadLeaves o l l' p p buffer buffer'
   leaves (refused r) h = record { unchanged = record { link = h.1; parts = refl }; bytes = h.2 }
   leaves (done x) h = record {
-    stands = stands-in l p records n g l' x.state h.slots h.counts h.state;
+    stands = stands_in l p records n g l' x.state h.slots h.counts h.state;
     parts = refl;
     bytes = h.bytes;
   }
 
-  pub read-promised : Left (readsWith l records p.acks (lentLengths n p.sendPool p.receivePool p.acks) p.receivePool
+  pub read_promised : Left (reads_with l records p.acks (lent_lengths n p.send_pool p.receive_pool p.acks) p.receive_pool
       (length buffer)) → ReadPromise l p buffer a l' p buffer'
-  unfolding readsWith
-  read-promised h =
+  unfolding reads_with
+  read_promised h =
       let k : Left (reads l p (length buffer)) =
-      subst Left (outcome-in l p records n g (λ s. reading s p.receivePool (length buffer))) h in
+      subst Left (outcome_in l p records n g (λ s. reading s p.receive_pool (length buffer))) h in
       record {
         answer = answers (reads l p (length buffer)) k;
-        number = counts-number (λ (x : Reads). length x.bytes) a (reads l p (length buffer)) (answers (reads l p (length buffer)) k);
+        number = counts_number (λ (x : Reads). length x.bytes) a (reads l p (length buffer)) (answers (reads l p (length buffer)) k);
         leaves = leaves (reads l p (length buffer)) k;
       }

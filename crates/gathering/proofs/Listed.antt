@@ -9,25 +9,25 @@ use borrow.Author.Tests.{ltb-true, ltb-false, lt-ltb, le-ltb}
 use lib.Dec.{ltb}
 use lib.ListN.{length, get_or, take, length-map, length-take, get_or-map, get_or-eq_default}
 use lib.Seq.{get_or-take, length-take-le}
-use Rattle.protocol.specs.Protocol.{sendSlots}
+use Rattle.protocol.specs.Protocol.{send_slots}
 use Rattle.timing.specs.declared.Record.{Record}
-use Rattle.records.specs.Tables.{blank, slotsIn}
+use Rattle.records.specs.Tables.{blank, slots_in}
 use Rattle.gathering.specs.Reach.{reach}
 
 -- what is read for a word is the record at its slot among the first 128
 pub reached : (table : List Record) (word k : ℕ) (r : Record) → length table < 2 ^ 64 → k ≡ reach word → r ≡ get_or table k blank
-    → r ≡ get_or (take sendSlots table) (word % 256) blank
-reached table word k r room e f = f ∙ go (ltb (word % 256) sendSlots) refl
+    → r ≡ get_or (take send_slots table) (word % 256) blank
+reached table word k r room e f = f ∙ go (ltb (word % 256) send_slots) refl
   where
-    go : (b : Bool) → ltb (word % 256) sendSlots ≡ b → get_or table k blank ≡ get_or (take sendSlots table) (word % 256) blank
-    go true h = rw (e, h) (sym (get_or-take sendSlots table (word % 256) blank (ltb-true _ _ h)))
+    go : (b : Bool) → ltb (word % 256) send_slots ≡ b → get_or table k blank ≡ get_or (take send_slots table) (word % 256) blank
+    go true h = rw (e, h) (sym (get_or-take send_slots table (word % 256) blank (ltb-true _ _ h)))
     go false h =
-        let past : sendSlots ≤ word % 256 = ltb-false _ _ h in
+        let past : send_slots ≤ word % 256 = ltb-false _ _ h in
         rw (e, h) (get_or-eq_default table blank (omega arith) ∙ sym
-        (get_or-eq_default (take sendSlots table) blank (omega (arith, past, length-take sendSlots table))))
+        (get_or-eq_default (take send_slots table) blank (omega (arith, past, length-take send_slots table))))
 
-pub reach-slot : (word s : ℕ) → s ≡ word % 256 → s < sendSlots → s ≡ reach word
-reach-slot word s e h = rw (← e, lt-ltb s sendSlots h)
+pub reach_slot : (word s : ℕ) → s ≡ word % 256 → s < send_slots → s ≡ reach word
+reach_slot word s e h = rw (← e, lt-ltb s send_slots h)
 
-pub reach-none : (word s : ℕ) → s ≡ word % 256 → sendSlots ≤ s → 18446744073709551615 ≡ reach word
-reach-none word s e h = rw (← e, le-ltb s sendSlots h)
+pub reach_none : (word s : ℕ) → s ≡ word % 256 → send_slots ≤ s → 18446744073709551615 ≡ reach word
+reach_none word s e h = rw (← e, le-ltb s send_slots h)

@@ -1,10 +1,10 @@
 // The records of the outstanding segments, gathered from the lent table by the words of the block, and put back. A function
 // that has the table is proved by hand; the others are its steps on plain values.
 ghost use Rattle.std.specs.Prelude.{◌≡◌, ◌<◌, ◌≤◌, ◌%◌, min, length, get_or, replicate, take};
-ghost use Rattle.protocol.specs.Protocol.{sendSlots};
-ghost use Rattle.records.specs.Tables.{slotsIn, gathered, padded, scattered};
-ghost use Rattle.record_words.specs.RecordWords.{recordsIn};
-ghost use Rattle.checking.specs.Tests.{flightFits};
+ghost use Rattle.protocol.specs.Protocol.{send_slots};
+ghost use Rattle.records.specs.Tables.{slots_in, gathered, padded, scattered};
+ghost use Rattle.record_words.specs.RecordWords.{records_in};
+ghost use Rattle.checking.specs.Tests.{flight_fits};
 ghost use Rattle.gathering.specs.Reach.{reach};
 
 use checking::flights;
@@ -51,7 +51,7 @@ fn reach(word: u32) -> usize
 pub fn gather(table: &[Record], words: &[u32; 32], n: usize, records: &mut [u32; 128])
     requires { (length words.now ≡ 32) × (records.old ≡ replicate 128 0) }
     ensures { (length records.new ≡ 128)
-        × (recordsIn records.new ≡ padded (gathered (take sendSlots table.now) (slotsIn words.now n))) }
+        × (records_in records.new ≡ padded (gathered (take send_slots table.now) (slots_in words.now n))) }
 {
     let count = within(n);
     let mut i = 0;
@@ -68,8 +68,8 @@ pub fn gather(table: &[Record], words: &[u32; 32], n: usize, records: &mut [u32;
 // are read.
 pub fn fit(table: &[Record], words: &[u32; 32], settings: Settings, flight: Flight) -> bool
     requires { length words.now ≡ 32 }
-    ensures { result ≡ flightFits settings.mode flight.una flight.next (take flight.outstanding
-        (padded (gathered (take sendSlots table.now) (slotsIn words.now flight.outstanding)))) }
+    ensures { result ≡ flight_fits settings.mode flight.una flight.next (take flight.outstanding
+        (padded (gathered (take send_slots table.now) (slots_in words.now flight.outstanding)))) }
 {
     let count = flights::looked_at(flight);
     let mut least: usize = 0;
@@ -89,7 +89,7 @@ pub fn fit(table: &[Record], words: &[u32; 32], settings: Settings, flight: Flig
 pub fn scatter(table: &mut [Record], words: &[u32; 32], n: usize, records: &[u32; 128])
     requires { (length words.now ≡ 32) × (length records.now ≡ 128) }
     ensures { table.new
-        ≡ scattered table.old (slotsIn words.now n) (recordsIn records.now) }
+        ≡ scattered table.old (slots_in words.now n) (records_in records.now) }
 {
     let count = within(n);
     let mut i = 0;

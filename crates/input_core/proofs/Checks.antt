@@ -6,13 +6,13 @@ use mathlib.Core.List.{List}
 use Prim.Native.Nat.{ℕ, ◌*◌, ◌≤◌}
 use native.Mathlib.Omega.{arith}
 use lib.ListN.{length}
-use Rattle.protocol.specs.Protocol.{sendSlots, receiveSlots, acksMost}
+use Rattle.protocol.specs.Protocol.{send_slots, receive_slots, acks_most}
 use Rattle.protocol.specs.Ranges.{mss}
 use Rattle.protocol.specs.Serial.{minus}
 use Rattle.protocol.specs.declared.Refusal.{Refusal}
 use Rattle.congestion.specs.CongestionLaws.{growable}
 use Rattle.timing.specs.declared.Record.{Record}
-use Rattle.lists.specs.Orders.{sentOffset}
+use Rattle.lists.specs.Orders.{sent_offset}
 use Rattle.sizes.specs.Sizes.{enough}
 use Rattle.sizes.specs.declared.Lengths.{Lengths}
 use Rattle.datagram.specs.Datagrams.{parse, counted}
@@ -21,97 +21,97 @@ use Rattle.datagram.specs.declared.Checked.{Checked}
 use Rattle.datagram.specs.declared.Checked.TheVariants as checked
 use Rattle.session.specs.State.{refused}
 use Rattle.session.specs.Input.{input}
-use Rattle.session.specs.Decides.{and_parts, leb-decides, and-decides}
-use Rattle.session.specs.Ascending.{ascending-ascends}
-use Rattle.session.specs.IsValid.{valid-decides}
-use Rattle.control.specs.Views.{arraysOf, Whole, state_of, countsFit, blockValid, pairs}
+use Rattle.session.specs.Decides.{and_parts, leb_decides, and_decides}
+use Rattle.session.specs.Ascending.{ascending_ascends}
+use Rattle.session.specs.IsValid.{valid_decides}
+use Rattle.control.specs.Views.{arrays_of, Whole, state_of, counts_fit, block_valid, pairs}
 use Rattle.control.specs.ViewLaws.{counts}
 use Rattle.control.specs.declared.Link.{Link}
 use Rattle.checking.specs.Verdicts.{Admitted}
-use Rattle.checking.specs.VerdictLaws.{refused-by, passed-by}
+use Rattle.checking.specs.VerdictLaws.{refused_by_lem, passed_by}
 use Rattle.checking.specs.declared.Verdict.{Verdict}
 use Rattle.checking.specs.declared.Verdict.TheVariants.{Passed, Refused}
-use Rattle.promises.specs.Outcomes.{takesInWith}
-use Rattle.acknowledge.specs.Flights.{sentIn}
-use Rattle.receive.proofs.Starts.{marked_start, sound-start}
-use Rattle.input_core.specs.Taking.{checkedBy, flightOf, Hearable}
+use Rattle.promises.specs.Outcomes.{takes_in_with}
+use Rattle.acknowledge.specs.Flights.{sent_in}
+use Rattle.receive.proofs.Starts.{marked_start, sound_start}
+use Rattle.input_core.specs.Taking.{checked_by, flight_of, Hearable}
 use Rattle.input_core.proofs.Takes.{begun, refused_over}
 
 -- the receive pool and the ack list are long enough
 record LongEnough (m : ℕ) (n : Lengths) : Type 0 where
-  pub receive : receiveSlots * m ≤ n.receive
-  pub acks : 2 * acksMost ≤ n.acks
+  pub receive : receive_slots * m ≤ n.receive
+  pub acks : 2 * acks_most ≤ n.acks
 
-long-enough : (m : ℕ) (n : Lengths) → enough m n ≡ true → LongEnough m n
+long_enough_lem : (m : ℕ) (n : Lengths) → enough m n ≡ true → LongEnough m n
 unfolding enough
-long-enough m n e =
+long_enough_lem m n e =
     let d =
-    and-decides
-    (and-decides (and-decides (leb-decides (sendSlots * m) n.send) (leb-decides (receiveSlots * m) n.receive))
-    (leb-decides sendSlots n.table))
-    (leb-decides (2 * acksMost) n.acks) in
+    and_decides
+    (and_decides (and_decides (leb_decides (send_slots * m) n.send) (leb_decides (receive_slots * m) n.receive))
+    (leb_decides send_slots n.table))
+    (leb_decides (2 * acks_most) n.acks) in
     let h = d.holds e in
     record { receive = h.0.0.1; acks = h.1 }
 
 -- v is the verdict on the block l with parts of these lengths
 module _ (l : Link) (records : List Record) (n : Lengths) (pool acks send marks : List ℕ) (long : Bool) (v : Verdict)
     (e : long ≡ enough (mss l.settings) n) (a : Admitted long l records send marks v) where
-  pub admits : (s : List ℕ) → v ≡ Passed → takesInWith l records acks n pool s ≡ input (state_of l records acks) pool s
-  unfolding takesInWith
-  admits s r = let p = passed-by long (blockValid l records acks) v (a.verdict acks) r in rw (← e, p.long-enough, p.valid-block)
+  pub admits : (s : List ℕ) → v ≡ Passed → takes_in_with l records acks n pool s ≡ input (state_of l records acks) pool s
+  unfolding takes_in_with
+  admits s r = let p = passed_by long (block_valid l records acks) v (a.verdict acks) r in rw (← e, p.long_enough_lem, p.valid_block)
 
   -- x is what all checks say of the datagram s
   module _ (m : ℕ) (d : m ≡ mss l.settings) (s : List ℕ) (x : Checked)
-      (w : x ≡ checkedBy v (counted 0 (parse l.settings.conv m s))) where
-    pub refuses : (q : Refusal) → x ≡ checked.Refused q → takesInWith l records acks n pool s ≡ refused q
-    unfolding takesInWith
+      (w : x ≡ checked_by v (counted 0 (parse l.settings.conv m s))) where
+    pub refuses : (q : Refusal) → x ≡ checked.Refused q → takes_in_with l records acks n pool s ≡ refused q
+    unfolding takes_in_with
     refuses q r = go v refl w
       where
-        go : (u : Verdict) → v ≡ u → x ≡ checkedBy u (counted 0 (parse l.settings.conv m s))
-            → takesInWith l records acks n pool s ≡ refused q
+        go : (u : Verdict) → v ≡ u → x ≡ checked_by u (counted 0 (parse l.settings.conv m s))
+            → takes_in_with l records acks n pool s ≡ refused q
         go Passed p y = admits s p ∙ refused_over l.settings m s x y d l records acks pool q refl r
         go (Refused z) p y =
             let same : z ≡ q = cc in
-            rw (← e) (refused-by _ long (blockValid l records acks) v q (a.verdict acks) (rw same at p))
+            rw (← e) (refused_by_lem _ long (block_valid l records acks) v q (a.verdict acks) (rw same at p))
 
     pub passes : (k : ℕ) → x ≡ checked.Accepted k → (v ≡ Passed) × Begun l.settings.conv (mss l.settings) s k
     passes k r = go v refl w
       where
-        go : (u : Verdict) → v ≡ u → x ≡ checkedBy u (counted 0 (parse l.settings.conv m s))
+        go : (u : Verdict) → v ≡ u → x ≡ checked_by u (counted 0 (parse l.settings.conv m s))
             → (v ≡ Passed) × Begun l.settings.conv (mss l.settings) s k
         go Passed p y = (p, begun l.settings m s x y d k r)
         go (Refused z) p y = absurd (let same : ◌≡◌ {A = ℕ} 0 1 = cc in omega arith)
 
-  pub hearable : Whole (arraysOf l) → v ≡ Passed → n.receive ≡ length pool → n.acks ≡ length acks → Hearable l records marks acks pool
-  unfolding blockValid countsFit state_of
+  pub hearable : Whole (arrays_of l) → v ≡ Passed → n.receive ≡ length pool → n.acks ≡ length acks → Hearable l records marks acks pool
+  unfolding block_valid counts_fit state_of
   hearable whole r many wide =
-      let p = passed-by long (blockValid l records acks) v (a.verdict acks) r in
+      let p = passed_by long (block_valid l records acks) v (a.verdict acks) r in
       let k = a.checked r in
-      let both = and_parts (countsFit l) _ p.valid-block in
+      let both = and_parts (counts_fit l) _ p.valid_block in
       let few = counts l.flight l.arrival both.0 in
-      let made = (valid-decides (state_of l records acks)).holds both.1 in
-      let lent = long-enough (mss l.settings) n (sym e ∙ p.long-enough) in
+      let made = (valid_decides (state_of l records acks)).holds both.1 in
+      let lent = long_enough_lem (mss l.settings) n (sym e ∙ p.long_enough_lem) in
       record {
         whole = whole;
         counts = both.0;
         order = record {
-          whole = whole.whole-outstanding;
-          wholes = whole.whole-transmissions;
+          whole = whole.whole_outstanding;
+          wholes = whole.whole_transmissions;
           fits = few.outstanding;
           numbers = record {
-            ascends = ascending-ascends (sentOffset l.flight.una) (minus l.flight.next l.flight.una)
-                (sentIn (flightOf l records)) made.sending.ascending;
+            ascends = ascending_ascends (sent_offset l.flight.una) (minus l.flight.next l.flight.una)
+                (sent_in (flight_of l records)) made.sending.ascending;
             apart = made.sending.apart;
             first = made.sending.first;
           };
         };
         marked = marked_start l.arrival l.ready l.waiting l.waiting_numbers marks (pairs l.arrival.acks acks)
-            k.receive-whole (k.receive-free acks refl);
-        sound = sound-start l.arrival l.ready l.waiting l.waiting_numbers l.settings l.flight
+            k.receive_whole (k.receive_free acks refl);
+        sound = sound_start l.arrival l.ready l.waiting l.waiting_numbers l.settings l.flight
             (pairs l.arrival.acks acks) acks pool few made.settings made.receiving
             (rw (← wide) lent.acks)
             (rw (← many) lent.receive);
-        growable = growable (mss l.settings) l.flight.congestion (omega (arith, made.settings.mtu-least))
-            (omega (arith, made.settings.mtu-most))
+        growable = growable (mss l.settings) l.flight.congestion (omega (arith, made.settings.mtu_least_lem))
+            (omega (arith, made.settings.mtu_most_lem))
             made.congestion;
       }

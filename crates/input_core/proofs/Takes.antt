@@ -11,13 +11,13 @@ use Rattle.protocol.specs.declared.Settings.{Settings}
 use Rattle.protocol.specs.declared.Refusal.{Refusal}
 use Rattle.timing.specs.declared.Record.{Record}
 use Rattle.datagram.specs.Datagrams.{parse, counted}
-use Rattle.datagram.specs.StepLaws.{Begun, accepted, was-refused}
+use Rattle.datagram.specs.StepLaws.{Begun, accepted, was_refused}
 use Rattle.datagram.specs.declared.Checked.{Checked}
 use Rattle.datagram.specs.declared.Checked.TheVariants as checked
 use Rattle.session.specs.State.{Sending, Outcome, refused, done}
-use Rattle.session.specs.Input.{Receiver, Took, allByReceiving, applied, input}
+use Rattle.session.specs.Input.{Receiver, Took, all_by_receiving, applied, input}
 use Rattle.answers.specs.declared.Answer.TheVariants as answer
-use Rattle.control.specs.Views.{arrays, link_of, state_of, countsFit, pairs, receivingOf}
+use Rattle.control.specs.Views.{arrays, link_of, state_of, counts_fit, pairs, receiving_of}
 use Rattle.control.specs.ViewLaws.{counts}
 use Rattle.control.specs.declared.Link.{Link}
 use Rattle.control.specs.declared.Flight.{Flight}
@@ -25,15 +25,15 @@ use Rattle.control.specs.declared.Arrival.{Arrival}
 use Rattle.promises.specs.Cores.{InputCore}
 use Rattle.acknowledge.specs.Flights as sending
 use Rattle.receive.specs.Halves as receiving
-use Rattle.receive.proofs.Starts.{receiver-view}
-use Rattle.input_core.specs.Taking.{flightOf, receiverIn, grownFrom}
+use Rattle.receive.proofs.Starts.{receiver_view}
+use Rattle.input_core.specs.Taking.{flight_of, receiver_in, grown_from}
 
 -- ---- refused
 
-pub takes-nothing : (o : Outcome Took) (l : Link) (pool acks words : List ℕ) (records : List Record) (q : Refusal) → o ≡ refused q
+pub takes_nothing : (o : Outcome Took) (l : Link) (pool acks words : List ℕ) (records : List Record) (q : Refusal) → o ≡ refused q
     → InputCore o l pool acks (answer.Refused q) l (record { words = words; changed = 0; records = records }) pool acks
-takes-nothing o l pool acks words records q e =
-    rw e (record { answer = refl; link = refl; puts = refl; pool-same = refl; acks-same = refl })
+takes_nothing o l pool acks words records q e =
+    rw e (record { answer = refl; link = refl; puts = refl; pool_same = refl; acks_same = refl })
 
 -- v is what the check of the datagram s answers, m being the mss of the settings c
 module _ (c : Settings) (m : ℕ) (s : List ℕ) (v : Checked) (e : v ≡ counted 0 (parse c.conv m s)) (q : m ≡ mss c) where
@@ -47,7 +47,7 @@ module _ (c : Settings) (m : ℕ) (s : List ℕ) (v : Checked) (e : v ≡ counte
   pub refused_over : (l : Link) (records : List Record) (acks pool : List ℕ) (x : Refusal) → l.settings ≡ c → v ≡ checked.Refused x
       → input (state_of l records acks) pool s ≡ refused x
   unfolding input state_of
-  refused_over l records acks pool x k r = rw (k, was-refused 0 (parse c.conv (mss c) s) x (sym verdict ∙ r))
+  refused_over l records acks pool x k r = rw (k, was_refused 0 (parse c.conv (mss c) s) x (sym verdict ∙ r))
 
 -- ---- accepted
 
@@ -56,21 +56,21 @@ module _ (l : Link) (records : List Record) (pool acks s : List ℕ) (f : Flight
     (words transmissions ready waiting numbers : List ℕ) (records' : List Record) (pool' acks' : List ℕ) (n : ℕ)
     (b : Begun l.settings.conv (mss l.settings) s n) where
   abbrev after : Link
-  after = link_of l.settings (grownFrom l.settings l.flight f) a l.clock
+  after = link_of l.settings (grown_from l.settings l.flight f) a l.clock
       (arrays l.queued words transmissions ready waiting numbers)
 
-  module _ (x : sending.HearsAll l.settings l.clock.current s (flightOf l records) (sending.view f words transmissions records'))
-      (y : receiving.HearsAll l.settings s (receiverIn l) acks pool (receiverIn after) acks' pool') where
+  module _ (x : sending.HearsAll l.settings l.clock.current s (flight_of l records) (sending.view f words transmissions records'))
+      (y : receiving.HearsAll l.settings s (receiver_in l) acks pool (receiver_in after) acks' pool') where
     -- the receiving half and the pool
-    received : record { half = receivingOf a ready waiting numbers (pairs a.acks acks'); pool = pool' }
-        ≡ allByReceiving (mss l.settings) (record
-        { half = receivingOf l.arrival l.ready l.waiting l.waiting_numbers (pairs l.arrival.acks acks); pool = pool })
+    received : record { half = receiving_of a ready waiting numbers (pairs a.acks acks'); pool = pool' }
+        ≡ all_by_receiving (mss l.settings) (record
+        { half = receiving_of l.arrival l.ready l.waiting l.waiting_numbers (pairs l.arrival.acks acks); pool = pool })
         b.all
     received =
-        sym (receiver-view a ready waiting numbers acks' pool')
+        sym (receiver_view a ready waiting numbers acks' pool')
         ∙ (y b.all b.parsed).is
-        ∙ ap (λ (z : Receiver). allByReceiving (mss l.settings) z b.all)
-        (receiver-view l.arrival l.ready l.waiting l.waiting_numbers acks pool)
+        ∙ ap (λ (z : Receiver). all_by_receiving (mss l.settings) z b.all)
+        (receiver_view l.arrival l.ready l.waiting l.waiting_numbers acks pool)
 
     outcome : input (state_of l records acks) pool s ≡ done (record { state = state_of after records' acks'; pool = pool' })
     unfolding input applied state_of
@@ -85,15 +85,15 @@ module _ (l : Link) (records : List Record) (pool acks s : List ℕ) (f : Flight
           ap (λ (z : Receiver). z.pool) received,
         )
 
-    counts-after : countsFit l ≡ true → countsFit after ≡ true
-    unfolding countsFit
-    counts-after e =
+    counts_after : counts_fit l ≡ true → counts_fit after ≡ true
+    unfolding counts_fit
+    counts_after e =
         let k = counts l.flight l.arrival e in
         let h = x b.all b.parsed in
         let u = (y b.all b.parsed).sound in
         rw (h.queue, le-leb _ _ k.queued, le-leb _ _ h.fits, le-leb _ _ u.ready, le-leb _ _ u.waiting, le-leb _ _ u.noted)
 
-    pub takes_all : countsFit l ≡ true → length acks' ≡ length acks → (g : Flight) → g ≡ grownFrom l.settings l.flight f
+    pub takes_all : counts_fit l ≡ true → length acks' ≡ length acks → (g : Flight) → g ≡ grown_from l.settings l.flight f
         → InputCore (input (state_of l records acks) pool s) l pool acks answer.Accepted
         (link_of l.settings g a l.clock (arrays l.queued words transmissions ready waiting numbers))
         (record { words = words; changed = g.outstanding; records = records' }) pool' acks'
@@ -101,10 +101,10 @@ module _ (l : Link) (records : List Record) (pool acks s : List ℕ) (f : Flight
         rw (q, outcome)
         (record {
           answer = refl;
-          counts = counts-after e;
+          counts = counts_after e;
           state = refl;
           puts = record { words = refl; changed = refl };
           pool = refl;
-          ack-length = long;
-          ack-rest = (y b.all b.parsed).beyond;
+          ack_length_lem = long;
+          ack_rest_lem = (y b.all b.parsed).beyond;
         })

@@ -3,7 +3,7 @@
 use Rattle.std.specs.Prelude.{◌≡◌, true, List, ℕ}
 use Rattle.protocol.specs.Ranges.{mss}
 use Rattle.protocol.specs.declared.Settings.{Settings}
-use Rattle.congestion.specs.Congestions.{afterDatagram, Growable}
+use Rattle.congestion.specs.Congestions.{after_datagram, Growable}
 use Rattle.timing.specs.declared.Record.{Record}
 use Rattle.datagram.specs.declared.Checked.{Checked}
 use Rattle.datagram.specs.declared.Checked.TheVariants as checked
@@ -11,7 +11,7 @@ use Rattle.checking.specs.declared.Verdict.{Verdict}
 use Rattle.checking.specs.declared.Verdict.TheVariants as verdict
 use Rattle.session.specs.State.{Outcome}
 use Rattle.session.specs.Input.{Took}
-use Rattle.control.specs.Views.{Arrays, arraysOf, link_of, Whole, countsFit}
+use Rattle.control.specs.Views.{Arrays, arrays_of, link_of, Whole, counts_fit}
 use Rattle.control.specs.declared.Link.{Link}
 use Rattle.control.specs.declared.Flight.{Flight}
 use Rattle.control.specs.declared.Arrival.{Arrival}
@@ -23,35 +23,35 @@ use Rattle.receive.specs.Pushes.{Marked}
 use Rattle.input_core.specs.declared.Taken.{Taken}
 
 -- what the checks of 7 and 13 say, then those of the datagram
-abbrev pub checkedBy : Verdict → Checked → Checked
-checkedBy verdict.Passed x = x
-checkedBy (verdict.Refused q) x = checked.Refused q
+abbrev pub checked_by : Verdict → Checked → Checked
+checked_by verdict.Passed x = x
+checked_by (verdict.Refused q) x = checked.Refused q
 
 -- the segments in flight of a block, and its receiving half
-abbrev pub flightOf : Link → List Record → View
-flightOf l records = view l.flight l.outstanding l.transmissions records
+abbrev pub flight_of : Link → List Record → View
+flight_of l records = view l.flight l.outstanding l.transmissions records
 
-abbrev pub receiverIn : Link → Half
-receiverIn l = half_of l.arrival l.ready l.waiting l.waiting_numbers
+abbrev pub receiver_in : Link → Half
+receiver_in l = half_of l.arrival l.ready l.waiting l.waiting_numbers
 
 -- a block that has passed the checks: both halves may hear a datagram
 pub record Hearable (l : Link) (records : List Record) (marks acks pool : List ℕ) : Type 0 where
-  pub whole : Whole (arraysOf l)
-  pub counts : countsFit l ≡ true
-  pub order : InOrder (flightOf l records)
-  pub marked : Marked (receiverIn l) marks 0
-  pub sound : Sound (receiverIn l) (mss l.settings) acks pool
+  pub whole : Whole (arrays_of l)
+  pub counts : counts_fit l ≡ true
+  pub order : InOrder (flight_of l records)
+  pub marked : Marked (receiver_in l) marks 0
+  pub sound : Sound (receiver_in l) (mss l.settings) acks pool
   pub growable : Growable (mss l.settings) l.flight.congestion
 
 -- the numbers after a datagram, with the congestion window grown from what it was before
-abbrev pub grownFrom : Settings → Flight → Flight → Flight
-grownFrom c before after =
+abbrev pub grown_from : Settings → Flight → Flight → Flight
+grown_from c before after =
     record {
       una = after.una;
       next = after.next;
       rtt = after.rtt;
       window = after.window;
-      congestion = afterDatagram before.congestion (mss c) before.una after.una after.window;
+      congestion = after_datagram before.congestion (mss c) before.una after.una after.window;
       queued = after.queued;
       outstanding = after.outstanding;
     }

@@ -1,16 +1,16 @@
 // Taking in a datagram over the block in place: its small structs by value, its lists and the records of the outstanding segments lent.
 ghost use Rattle.std.specs.Prelude.{◌≡◌, ℕ, length};
-ghost use Rattle.record_words.specs.RecordWords.{recordsIn};
+ghost use Rattle.record_words.specs.RecordWords.{records_in};
 ghost use Rattle.session.specs.Input.{input};
 ghost use Rattle.control.specs.Views.{arrays, link_of, Whole, state_of};
 ghost use Rattle.checking.specs.Verdicts.{ReceiveMarked};
-ghost use Rattle.promises.specs.Parts.{lentLengths};
-ghost use Rattle.promises.specs.Outcomes.{takesInWith};
+ghost use Rattle.promises.specs.Parts.{lent_lengths};
+ghost use Rattle.promises.specs.Outcomes.{takes_in_with};
 ghost use Rattle.protocol.specs.Ranges.{mss};
 ghost use Rattle.congestion.specs.Congestions.{Growable};
 ghost use Rattle.datagram.specs.Datagrams.{parse, counted};
 ghost use Rattle.datagram.specs.StepLaws.{Begun};
-ghost use Rattle.input_core.specs.Taking.{checkedBy, Hearable, grownFrom, Takes};
+ghost use Rattle.input_core.specs.Taking.{checked_by, Hearable, grown_from, Takes};
 
 use answers::Answer;
 use checking::{Verdict, flights};
@@ -31,7 +31,7 @@ pub struct Taken {
 // The sending half's numbers after a datagram, with the congestion window grown from what it was before.
 fn grown(settings: Settings, before: Flight, after: Flight) -> Flight
     requires { Growable (mss settings) before.congestion }
-    ensures { result ≡ grownFrom settings before after }
+    ensures { result ≡ grown_from settings before after }
 {
     let most = settings.mss();
     let old = before.congestion;
@@ -42,7 +42,7 @@ fn grown(settings: Settings, before: Flight, after: Flight) -> Flight
 
 // What the checks of 7 and 13 say, then those of the datagram, 1 to 6 and 14.
 fn checked_by(verdict: Verdict, datagram: &[u8], conv: u32, mss: usize) -> Checked
-    ensures { result ≡ checkedBy verdict (counted 0 (parse conv mss datagram.now)) }
+    ensures { result ≡ checked_by verdict (counted 0 (parse conv mss datagram.now)) }
 {
     match verdict {
         Verdict::Passed => datagram::check(datagram, conv, mss),
@@ -69,10 +69,10 @@ fn hear(
     datagram: &[u8],
 ) -> Taken
     requires { Hearable (link_of settings flight arrival clock (arrays queued.now outstanding.old transmissions.old
-        ready.old waiting.old waiting_numbers.old)) (recordsIn records.old) marks.now acks.old receive_pool.old
+        ready.old waiting.old waiting_numbers.old)) (records_in records.old) marks.now acks.old receive_pool.old
         × (length records.old ≡ 128)
         × ((n : ℕ) × Begun settings.conv (mss settings) datagram.now n) }
-    ensures { Takes (λ l. input (state_of l (recordsIn records.old) acks.old)
+    ensures { Takes (λ l. input (state_of l (records_in records.old) acks.old)
         receive_pool.old datagram.now)
         settings flight arrival clock
         (arrays queued.now outstanding.old transmissions.old
@@ -80,7 +80,7 @@ fn hear(
         receive_pool.old acks.old result
         (arrays queued.now outstanding.new transmissions.new
         ready.new waiting.new waiting_numbers.new)
-        (recordsIn records.new) receive_pool.new acks.new
+        (records_in records.new) receive_pool.new acks.new
         × (length records.new ≡ 128) }
 {
     let sent = acknowledge::hear(
@@ -137,8 +137,8 @@ pub fn input(
         × (length records.old ≡ 128)
         × ReceiveMarked (link_of settings flight arrival clock (arrays queued.now outstanding.old
         transmissions.old ready.old waiting.old waiting_numbers.old)) receive_marks.now sound }
-    ensures { Takes (λ l. takesInWith l (recordsIn records.old) acks.old
-        (lentLengths table send_pool.now receive_pool.old acks.old)
+    ensures { Takes (λ l. takes_in_with l (records_in records.old) acks.old
+        (lent_lengths table send_pool.now receive_pool.old acks.old)
         receive_pool.old datagram.now)
         settings flight arrival clock
         (arrays queued.now outstanding.old transmissions.old
@@ -146,7 +146,7 @@ pub fn input(
         receive_pool.old acks.old result
         (arrays queued.now outstanding.new transmissions.new
         ready.new waiting.new waiting_numbers.new)
-        (recordsIn records.new) receive_pool.new acks.new
+        (records_in records.new) receive_pool.new acks.new
         × (length records.new ≡ 128) }
 {
     let lent = Lengths {

@@ -1,11 +1,11 @@
 // A push is kept, the lists of the receiving half in lent arrays. It goes to the lowest free slot: marks are those of the slots held
 // when the call began, and slots are only taken, lowest first, so the search goes on behind the last one taken.
 ghost use Rattle.std.specs.Prelude.{◌≡◌, ◌&&◌, ◌≤◌, ◌<◌, eqb, ltb, length};
-ghost use Rattle.protocol.specs.Protocol.{receiveWindow};
+ghost use Rattle.protocol.specs.Protocol.{receive_window};
 ghost use Rattle.protocol.specs.Serial.{minus};
 ghost use Rattle.words.specs.Words.{unpack};
 ghost use Rattle.arriving.specs.Arrivals.{lists_of, WholeLists};
-ghost use Rattle.keeping.specs.Pushing.{isInWindow, held_at};
+ghost use Rattle.keeping.specs.Pushing.{is_in_window, held_at};
 ghost use Rattle.keeping.specs.Keeping.{Storable, Stored, Found, Keepable, Kept};
 
 use control::Arrival;
@@ -22,14 +22,14 @@ pub struct Pushed {
 
 // Whether sn is before rcv_nxt + 128.
 pub fn in_window(next: u32, sn: u32) -> bool
-    ensures { result ≡ isInWindow next sn }
+    ensures { result ≡ is_in_window next sn }
 {
     serial::before(sn, serial::sum(next, Protocol::RECEIVE_WINDOW))
 }
 
 // Whether a push can be ready at once: it is the one expected next, and fewer than 128 are ready.
 fn is_next(next: u32, ready: usize, sn: u32) -> bool
-    ensures { result ≡ (eqb (minus sn next) 0 && ltb ready receiveWindow) }
+    ensures { result ≡ (eqb (minus sn next) 0 && ltb ready receive_window) }
 {
     (serial::difference(sn, next) == 0) & (ready < 128)
 }

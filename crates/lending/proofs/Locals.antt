@@ -18,9 +18,9 @@ use types.Run.{alloc1, alloc0, free1, free0, forget}
 use denote.Steps.{nothing}
 
 -- where the locals lie: a place for each number
-abbrev pub envAt : List Local → (ℕ → ℕ) → List (Ty × ℕ)
-envAt [] p = []
-envAt (local τ h ∷ vs) p = (τ, p 0) ∷ envAt vs (λ n. p (suc n))
+abbrev pub env_at : List Local → (ℕ → ℕ) → List (Ty × ℕ)
+env_at [] p = []
+env_at (local τ h ∷ vs) p = (τ, p 0) ∷ env_at vs (λ n. p (suc n))
 
 abbrev before : ℕ → (ℕ → ℕ) → ℕ → ℕ
 before b p zero = b
@@ -68,19 +68,19 @@ module _ {M : Type 1} {𝓤 : Ura M} {𝓛 : Logic 𝓤} {K : Type 0} where
   open 𝓛 use {H}
 
   allocated : {Γ : List (Item 𝓤)} → K → (vs : List Local) {Kt : Env 𝓤 H → Goal 𝓤 H} (D : Fml)
-      → ((p : ℕ → ℕ) → Seq K 𝓛 (‵ (Dying vs p D) ∷ rooms vs p Γ) (Kt (envAt vs p))) → Seq K 𝓛 (‵ D ∷ Γ) (allocs vs Kt)
+      → ((p : ℕ → ℕ) → Seq K 𝓛 (‵ (Dying vs p D) ∷ rooms vs p Γ) (Kt (env_at vs p))) → Seq K 𝓛 (‵ D ∷ Γ) (allocs vs Kt)
   allocated t [] D k = alloc0 t $ k (λ n. n)
   allocated t (local τ h ∷ vs) D k = alloc1 t (λ b. move t (1 ∷ 2 ∷ []) $ fjoin t $
       allocated t vs (fsep (fdies τ b) D) (λ p. k (before b p)))
 
   module _ {Γ : List (Item 𝓤)} where
     pub allocates : K → (vs : List Local) {Kt : Env 𝓤 H → Goal 𝓤 H}
-        → ((p : ℕ → ℕ) → Seq K 𝓛 (‵ (Deaths vs p) ∷ rooms vs p Γ) (Kt (envAt vs p))) → Seq K 𝓛 Γ (allocs vs Kt)
+        → ((p : ℕ → ℕ) → Seq K 𝓛 (‵ (Deaths vs p) ∷ rooms vs p Γ) (Kt (env_at vs p))) → Seq K 𝓛 Γ (allocs vs Kt)
     allocates t vs k = nothing t $ allocated t vs ftrue (λ p. use1 𝓛 (‵ (fsep (Deaths vs p) ftrue)) (dying 𝓛 vs p ftrue) $ fsplit t $
         move t (1 ∷ []) $ drop t $ k p)
 
     pub frees_all : K → (vs : List Local) (p : ℕ → ℕ) (cs : List Cell) {g : Goal 𝓤 H}
-        → Step K 𝓛 Γ g (‵ (Deaths vs p) ∷ cells vs p cs Γ) (frees (envAt vs p) g)
+        → Step K 𝓛 Γ g (‵ (Deaths vs p) ∷ cells vs p cs Γ) (frees (env_at vs p) g)
     unfolding Deaths
     frees_all t [] p cs = step (λ s. free0 t $ drop t $ s)
     frees_all t (local τ h ∷ vs) p [] = step (λ s. fsplit t $ move t (2 ∷ 0 ∷ []) $ free1 t $ frees_all t vs (λ n. p (suc n)) [] $ s)

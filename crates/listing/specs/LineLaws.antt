@@ -4,18 +4,18 @@ use Rattle.std.specs.Prelude.{◌≡◌, refl, List, [], ◌∷◌, ◌++◌, �
 use Rattle.std.proofs.Common.{append_assoc, append-nil, add_assoc, add-zero, add-one, arith, length-append, take-suc, take-suc-set}
 use Rattle.listing.specs.declared.Line.{Line}
 use Rattle.notation.specs.Decimal.{decimal}
-use Rattle.notation.specs.DecimalLaws.{length-decimal}
+use Rattle.notation.specs.DecimalLaws.{length_decimal}
 use Rattle.wire.specs.Headers.{FieldsFit}
 use Rattle.wire.specs.declared.Header.{Header}
-use Rattle.listing.specs.Lines.{space, newline, field, row, segmentLine, text_of, Holds}
+use Rattle.listing.specs.Lines.{space, newline, field, row, segment_line, text_of, Holds}
 use Rattle.listing.specs.Puts.{front, back, Added}
 
 pub added_none : (l : Line) → Added l [] l
 added_none l = record { text = rw append-nil; len = rw add-zero }
 
-pub added-byte : (l : Line) (b : ℕ) → l.len < length l.bytes
+pub added_byte : (l : Line) (b : ℕ) → l.len < length l.bytes
     → Added l (b ∷ []) (record { bytes = set l.bytes l.len b; len = l.len + 1 })
-added-byte l b h = record { text = rw (add-one, take-suc-set l.bytes l.len b h); len = refl }
+added_byte l b h = record { text = rw (add-one, take-suc-set l.bytes l.len b h); len = refl }
 
 pub added_then : (l m r : Line) (t u : List ℕ) → Added l t m → Added m u r → Added l (t ++ u) r
 added_then l m r t u a b =
@@ -24,8 +24,8 @@ added_then l m r t u a b =
       len = rw (b.len, a.len, length-append, add_assoc);
     }
 
-pub holds-added : (l r : Line) (t u : List ℕ) → Holds t l → Added l u r → length t + length u ≤ 80 → Holds (t ++ u) r
-holds-added l r t u a b most =
+pub holds_added : (l r : Line) (t u : List ℕ) → Holds t l → Added l u r → length t + length u ≤ 80 → Holds (t ++ u) r
+holds_added l r t u a b most =
     let long : r.len ≡ length t + length u = rw (b.len, a.len) in
     record {
       text = rw (b.text, a.text);
@@ -33,16 +33,16 @@ holds-added l r t u a b most =
       most = omega arith;
     }
 
-pub length-field-one : (n end : ℕ) → length (field n end) ≡ length (decimal n) + 1
+pub length_field_one : (n end : ℕ) → length (field n end) ≡ length (decimal n) + 1
 unfolding field
-length-field-one n end = rw length-append
+length_field_one n end = rw length-append
 
-pub holds-length : (t : List ℕ) (l : Line) → Holds t l → length (text_of l) ≡ l.len
-holds-length t l h = rw (h.text, h.len)
+pub holds_length : (t : List ℕ) (l : Line) → Holds t l → length (text_of l) ≡ l.len
+holds_length t l h = rw (h.text, h.len)
 
 -- a field of a number below 10^k has at most k bytes, and one behind them
-pub length-field : (k n end : ℕ) → 0 < k → n < 10 ^ k → length (field n end) ≤ k + 1
-length-field k n end p h = omega (arith, length-field-one n end, length-decimal k n p h)
+pub length_field : (k n end : ℕ) → 0 < k → n < 10 ^ k → length (field n end) ≤ k + 1
+length_field k n end p h = omega (arith, length_field_one n end, length_decimal k n p h)
 
 -- one byte more of s
 pub added_next : (l m r : Line) (s : List ℕ) (i : ℕ) → Added l (take i s) m → Added m (get_or s i 0 ∷ []) r → i < length s
@@ -65,14 +65,14 @@ pub record Widths (h : Header) : Type 0 where
 pub widths : (h : Header) → FieldsFit h → Widths h
 widths h f =
     record {
-      conv = length-field 10 h.conv space (omega arith) (omega (arith, f.conv));
-      cmd = length-field 3 h.cmd space (omega arith) (omega (arith, f.cmd));
-      frg = length-field 3 h.frg space (omega arith) (omega (arith, f.frg));
-      wnd = length-field 5 h.wnd space (omega arith) (omega (arith, f.wnd));
-      ts = length-field 10 h.ts space (omega arith) (omega (arith, f.ts));
-      sn = length-field 10 h.sn space (omega arith) (omega (arith, f.sn));
-      una = length-field 10 h.una space (omega arith) (omega (arith, f.una));
-      len = length-field 10 h.len newline (omega arith) (omega (arith, f.len));
+      conv = length_field 10 h.conv space (omega arith) (omega (arith, f.conv));
+      cmd = length_field 3 h.cmd space (omega arith) (omega (arith, f.cmd));
+      frg = length_field 3 h.frg space (omega arith) (omega (arith, f.frg));
+      wnd = length_field 5 h.wnd space (omega arith) (omega (arith, f.wnd));
+      ts = length_field 10 h.ts space (omega arith) (omega (arith, f.ts));
+      sn = length_field 10 h.sn space (omega arith) (omega (arith, f.sn));
+      una = length_field 10 h.una space (omega arith) (omega (arith, f.una));
+      len = length_field 10 h.len newline (omega arith) (omega (arith, f.len));
     }
 
 pub length_front : (h : Header) → FieldsFit h → length (front h) ≤ 25
@@ -83,6 +83,6 @@ pub length_back : (h : Header) → FieldsFit h → length (back h) ≤ 44
 unfolding back
 length_back h f = let w = widths h f in simp length-append (omega arith)
 
-pub segment-parts : (h : Header) → segmentLine h ≡ front h ++ back h
-unfolding segmentLine row front back
-segment-parts h = simp append_assoc
+pub segment_parts : (h : Header) → segment_line h ≡ front h ++ back h
+unfolding segment_line row front back
+segment_parts h = simp append_assoc

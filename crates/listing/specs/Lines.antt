@@ -26,20 +26,20 @@ row [] = newline ∷ []
 row (n ∷ []) = field n newline
 row (n ∷ m ∷ ns) = field n space ++ row (m ∷ ns)
 
-unfoldable pub columnLine : List ℕ
-columnLine = ascii "conv cmd frg wnd ts sn una len\n"
+unfoldable pub column_line : List ℕ
+column_line = ascii "conv cmd frg wnd ts sn una len\n"
 
 -- the columns are header fields
-unfoldable pub segmentLine : Header → List ℕ
-segmentLine h = row (h.conv ∷ h.cmd ∷ h.frg ∷ h.wnd ∷ h.ts ∷ h.sn ∷ h.una ∷ h.len ∷ [])
+unfoldable pub segment_line : Header → List ℕ
+segment_line h = row (h.conv ∷ h.cmd ∷ h.frg ∷ h.wnd ∷ h.ts ∷ h.sn ∷ h.una ∷ h.len ∷ [])
 
 -- the last line counts segments
-unfoldable pub countLine : ℕ → List ℕ
-countLine n = ascii "ok " ++ field n newline
+unfoldable pub count_line : ℕ → List ℕ
+count_line n = ascii "ok " ++ field n newline
 
 -- "refused", one space and the number
-unfoldable pub refusalLine : Refusal → List ℕ
-refusalLine r = ascii "refused " ++ field (number_of r) newline
+unfoldable pub refusal_line : Refusal → List ℕ
+refusal_line r = ascii "refused " ++ field (number_of r) newline
 
 -- ---- a line in an array
 

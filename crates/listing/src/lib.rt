@@ -3,7 +3,7 @@ mod out;
 mod text;
 
 ghost use Rattle.std.specs.Prelude.{◌≡◌};
-ghost use Rattle.listing.specs.Lines.{segmentLine, countLine, refusalLine, Holds};
+ghost use Rattle.listing.specs.Lines.{segment_line, count_line, refusal_line, Holds};
 ghost use Rattle.listing.specs.Listings.{judged, WroteListing};
 
 use datagram::Checked;
@@ -27,21 +27,21 @@ pub const ROOM_LEAST: usize = 220000;
 
 // The line of a segment: its header's fields.
 pub fn segment_line(h: Header) -> Line
-    ensures { Holds (segmentLine h) result }
+    ensures { Holds (segment_line h) result }
 {
     text::put_back(text::put_front(text::empty(), h), h)
 }
 
 // The last line where a datagram is accepted.
 pub fn count_line(n: usize) -> Line
-    ensures { Holds (countLine n) result }
+    ensures { Holds (count_line n) result }
 {
     text::last_line(b"ok ", n as u64)
 }
 
 // The last line where it is refused.
 pub fn refusal_line(r: Refusal) -> Line
-    ensures { Holds (refusalLine r) result }
+    ensures { Holds (refusal_line r) result }
 {
     text::last_line(b"refused ", r.number() as u64)
 }

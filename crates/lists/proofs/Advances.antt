@@ -11,9 +11,9 @@ use Rattle.lists.specs.declared.Held.{Held}
 use Rattle.lists.specs.declared.Waiting.{Waiting}
 use Rattle.lists.specs.declared.HeldList.{HeldList}
 use Rattle.lists.specs.declared.WaitingList.{WaitingList}
-use Rattle.lists.specs.Views.{HeldIs, WaitingIs, waitingPart}
+use Rattle.lists.specs.Views.{HeldIs, WaitingIs, waiting_part}
 use Rattle.lists.specs.Receiving.{advance, run_of, ReceivingIs}
-use Rattle.lists.specs.ReceivingLaws.{raised, risen, advance-run}
+use Rattle.lists.specs.ReceivingLaws.{raised, risen, advance_run}
 
 take_min : {A : Type 0} (m n : ℕ) (l : List A) → take m (take n l) ≡ take (min m n) l
 take_min zero n l = rw zero-min
@@ -27,9 +27,9 @@ module _ (next i j n k next' : ℕ) (r : List Held) (w : List Waiting) (up : Hel
   run_is g e f = rw (length-take-le i r g, take_min, ← e) (sym f)
 
   pub advanced : next < 2 ^ 32 → i ≤ length r → n ≡ min (128 - i) j → k ≡ run_of next (take n w) → next' ≡ plus next k
-      → HeldIs up (take i r ++ map waitingPart (take k (take j w))) → WaitingIs left (drop k (take j w))
+      → HeldIs up (take i r ++ map waiting_part (take k (take j w))) → WaitingIs left (drop k (take j w))
       → ReceivingIs (record { next = next'; ready = up; waiting = left }) (advance next (take i r) (take j w))
   advanced b g e f q u v =
       let whole : advance next (take i r) (take j w) ≡ raised next (take i r) (take j w) k =
-      advance-run next (take i r) (take j w) b ∙ ap (raised next (take i r) (take j w)) (run_is g e f) in
+      advance_run next (take i r) (take j w) b ∙ ap (raised next (take i r) (take j w)) (run_is g e f) in
       rw whole (record { next = q; ready = u; waiting = v })

@@ -10,21 +10,21 @@ use lib.Seq.{take-suc-set, drop-cons, drop-set-lt, drop-drop, get_or-drop, get_o
 use Rattle.lists.specs.Views.{Holds}
 
 -- the length of an array of structs: what owning one tells is of the list of its elements' own values
-pub length-mapped : (X Y : Type 0) (f : X → Y) (l : List X) (n : ℕ) → length (map f l) ≡ n → length l ≡ n
-length-mapped X Y f l n p = sym (length-map l f) ∙ p
+pub length_mapped : (X Y : Type 0) (f : X → Y) (l : List X) (n : ℕ) → length (map f l) ≡ n → length l ≡ n
+length_mapped X Y f l n p = sym (length-map l f) ∙ p
 
 pub room : (X Y : Type 0) (f : X → Y) (l : List X) (i n : ℕ) → length (map f l) ≡ n → i ≤ n → i ≤ length l
-room X Y f l i n p h = omega (arith, length-mapped X Y f l n p)
+room X Y f l i n p h = omega (arith, length_mapped X Y f l n p)
 
 module _ {A : Type 0} where
   -- what is left of the front at index i, and at its end
-  pub view-next : (l : List A) (n i : ℕ) (d : A) → i < n → n ≤ length l → drop i (take n l) ≡ get_or l i d ∷ drop (i + 1) (take n l)
-  view-next l n i d h g =
+  pub view_next : (l : List A) (n i : ℕ) (d : A) → i < n → n ≤ length l → drop i (take n l) ≡ get_or l i d ∷ drop (i + 1) (take n l)
+  view_next l n i d h g =
       let s : i < length (take n l) = simp length-take-le (omega arith) in
       drop-cons (take n l) i d s ∙ rw (get_or-take, add-one)
 
-  pub view-end : (l : List A) (n i : ℕ) → n ≤ i → drop i (take n l) ≡ []
-  view-end l n i h = drop_of_length-le (take n l) {i = i} (simp length-take (omega arith))
+  pub view_end : (l : List A) (n i : ℕ) → n ≤ i → drop i (take n l) ≡ []
+  view_end l n i h = drop_of_length-le (take n l) {i = i} (simp length-take (omega arith))
 
   -- a store at the end of the front
   take_put : (l : List A) (i : ℕ) (a : A) → i < length l → take (i + 1) (set l i a) ≡ take i l ++ (a ∷ [])
@@ -34,9 +34,9 @@ module _ {A : Type 0} where
   holds_as h e = record { fits = h.fits; list = h.list ∙ e }
 
   -- one element more
-  pub holds-put : {size : ℕ} (l : List A) (n : ℕ) (a : A) → length l ≡ size → n < size
+  pub holds_put : {size : ℕ} (l : List A) (n : ℕ) (a : A) → length l ≡ size → n < size
       → Holds size (set l n a) (n + 1) (take n l ++ (a ∷ []))
-  holds-put l n a e h = record { fits = omega arith; list = take_put l n a (omega arith) }
+  holds_put l n a e h = record { fits = omega arith; list = take_put l n a (omega arith) }
 
   drop_more : (l m : List A) (i : ℕ) → drop i l ≡ drop i m → drop (i + 1) l ≡ drop (i + 1) m
   drop_more l m i e = sym (drop-drop 1 i l) ∙ ap (drop 1) e ∙ drop-drop 1 i m
@@ -53,16 +53,16 @@ written_start todo j h g = record { whole = h; within = g; front = refl }
 
 module _ {A : Type 0} {size : ℕ} {l goal : List A} {j : ℕ} where
   -- the next element is written
-  pub written-put : {a : A} {todo : List A} → j < size → Written size l (a ∷ todo) goal j → Written size (set l j a) todo goal (j + 1)
-  written-put {a} h w = record {
+  pub written_put : {a : A} {todo : List A} → j < size → Written size l (a ∷ todo) goal j → Written size (set l j a) todo goal (j + 1)
+  written_put {a} h w = record {
     whole = length-set l j a ∙ w.whole;
     within = omega arith;
     front = rw (take_put l j a (omega arith), append_snoc) w.front;
   }
 
   -- nothing is left to do
-  pub written-done : {todo : List A} → todo ≡ [] → Written size l todo goal j → Holds size l j goal
-  written-done e w = record { fits = w.within; list = sym (append-nil (take j l)) ∙ rw e at w.front }
+  pub written_done : {todo : List A} → todo ≡ [] → Written size l todo goal j → Holds size l j goal
+  written_done e w = record { fits = w.within; list = sym (append-nil (take j l)) ∙ rw e at w.front }
 
 -- A loop writes to the front what it makes of the first n elements of the same array. It has read l₀ up to i.
 pub record Packed {A : Type 0} (size n : ℕ) (l₀ l todo goal : List A) (i j : ℕ) : Type 0 where
@@ -80,20 +80,20 @@ packed_start todo i j a b g e =
 
 module _ {A : Type 0} {size n : ℕ} {l₀ l goal : List A} {i j : ℕ} where
   -- the next element is written, or passed over
-  pub packed-put : {a : A} {todo : List A} → i < n → Packed size n l₀ l (a ∷ todo) goal i j
+  pub packed_put : {a : A} {todo : List A} → i < n → Packed size n l₀ l (a ∷ todo) goal i j
       → Packed size n l₀ (set l j a) todo goal (i + 1) (j + 1)
-  packed-put {a} h p =
+  packed_put {a} h p =
       record {
         under = omega arith;
         upto = omega arith;
         room = p.room;
         whole = p.whole;
-        written = written-put (omega arith) p.written;
+        written = written_put (omega arith) p.written;
         rest = drop-set-lt (i + 1) l j a (omega arith) ∙ drop_more l l₀ i p.rest;
       }
 
-  pub packed-skip : {todo : List A} → i < n → Packed size n l₀ l todo goal i j → Packed size n l₀ l todo goal (i + 1) j
-  packed-skip h p = record {
+  pub packed_skip : {todo : List A} → i < n → Packed size n l₀ l todo goal i j → Packed size n l₀ l todo goal (i + 1) j
+  packed_skip h p = record {
     under = omega arith;
     upto = omega arith;
     room = p.room;
@@ -103,13 +103,13 @@ module _ {A : Type 0} {size n : ℕ} {l₀ l goal : List A} {i j : ℕ} where
   }
 
   -- what is read next is what was there at first
-  pub packed-next : {todo : List A} (d : A) → i < n → Packed size n l₀ l todo goal i j → drop i (take n l₀) ≡ get_or l i d
+  pub packed_next : {todo : List A} (d : A) → i < n → Packed size n l₀ l todo goal i j → drop i (take n l₀) ≡ get_or l i d
       ∷ drop (i + 1) (take n l₀)
-  packed-next d h p =
+  packed_next d h p =
       let q : i + 0 ≡ i = omega arith in
       let e : get_or l₀ i d ≡ get_or l i d =
       rw q at (sym (get_or-drop i l₀ 0 d) ∙ ap (λ (r : List A). get_or r 0 d) (sym p.rest) ∙ get_or-drop i l 0 d) in
-      rw e at (view-next l₀ n i d h (omega arith))
+      rw e at (view_next l₀ n i d h (omega arith))
 
-  pub packed-done : {todo : List A} → todo ≡ [] → Packed size n l₀ l todo goal i j → Holds size l j goal
-  packed-done e p = written-done e p.written
+  pub packed_done : {todo : List A} → todo ≡ [] → Packed size n l₀ l todo goal i j → Holds size l j goal
+  packed_done e p = written_done e p.written

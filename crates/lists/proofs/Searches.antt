@@ -13,34 +13,34 @@ use Rattle.protocol.specs.Serial.{plus, minus}
 use Rattle.lists.specs.declared.Waiting.{Waiting}
 use Rattle.lists.specs.Orders.{is_held, insert}
 use Rattle.lists.specs.Receiving.{run_of}
-use Rattle.lists.proofs.Loops.{view-next, view-end}
+use Rattle.lists.proofs.Loops.{view_next, view_end}
 
 module _ {A : Type 0} (offset : A → ℕ) (l : List A) (n i : ℕ) where
-  pub held-end : (k : ℕ) → n ≤ i → is_held offset k (drop i (take n l)) ≡ false
+  pub held_end : (k : ℕ) → n ≤ i → is_held offset k (drop i (take n l)) ≡ false
   unfolding is_held
-  held-end k h = rw (view-end l n i h)
+  held_end k h = rw (view_end l n i h)
 
   -- o is the offset of the entry at i
   module _ (d : A) (o : ℕ) (h : i < n) (g : n ≤ length l) (e : o ≡ offset (get_or l i d)) where
-    pub held-here : (k : ℕ) → o ≡ k → is_held offset k (drop i (take n l)) ≡ true
+    pub held_here : (k : ℕ) → o ≡ k → is_held offset k (drop i (take n l)) ≡ true
     unfolding is_held
-    held-here k q = rw (view-next l n i d h g, ← e, eq-eqb o k q)
+    held_here k q = rw (view_next l n i d h g, ← e, eq-eqb o k q)
 
-    pub held-later : (k : ℕ) → (o ≡ k → ⊥) → is_held offset k (drop i (take n l)) ≡ is_held offset k (drop (i + 1) (take n l))
+    pub held_later : (k : ℕ) → (o ≡ k → ⊥) → is_held offset k (drop i (take n l)) ≡ is_held offset k (drop (i + 1) (take n l))
     unfolding is_held
-    held-later k q = rw (view-next l n i d h g, ← e, ne_eqb o k q)
+    held_later k q = rw (view_next l n i d h g, ← e, ne_eqb o k q)
 
 -- The search for the place of a: the entries before index i have smaller offsets, so that a goes in behind them.
 module _ {A : Type 0} (offset : A → ℕ) (a : A) (l : List A) (n i : ℕ) (g : n ≤ length l)
     (inv : insert offset a (take n l) ≡ take i (take n l) ++ insert offset a (drop i (take n l))) where
-  pub insert-end : n ≤ i → insert offset a (take n l) ≡ take i (take n l) ++ (a ∷ drop i (take n l))
+  pub insert_end : n ≤ i → insert offset a (take n l) ≡ take i (take n l) ++ (a ∷ drop i (take n l))
   unfolding insert
-  insert-end h = inv ∙ rw (view-end l n i h)
+  insert_end h = inv ∙ rw (view_end l n i h)
 
   -- the list with one more is within its size
-  pub insert-room : (size : ℕ) → length (insert offset a (take n l)) ≤ size → insert offset a (take n l) ≡ take i (take n l)
+  pub insert_room : (size : ℕ) → length (insert offset a (take n l)) ≤ size → insert offset a (take n l) ≡ take i (take n l)
       ++ (a ∷ drop i (take n l)) → n < size
-  insert-room size b e =
+  insert_room size b e =
       omega (
         arith,
         ap length e,
@@ -52,35 +52,35 @@ module _ {A : Type 0} (offset : A → ℕ) (a : A) (l : List A) (n i : ℕ) (g :
 
   -- o is the offset of the entry at i, k that of a
   module _ (d : A) (o k : ℕ) (h : i < n) (e : o ≡ offset (get_or l i d)) (f : k ≡ offset a) where
-    pub insert-same : o ≡ k → insert offset a (take n l) ≡ take n l
+    pub insert_same : o ≡ k → insert offset a (take n l) ≡ take n l
     unfolding insert
-    insert-same q = inv ∙ rw (view-next l n i d h g, ← e, ← f, eq-eqb o k q) (rw (← view-next l n i d h g) (take-append-drop i (take n l)))
+    insert_same q = inv ∙ rw (view_next l n i d h g, ← e, ← f, eq-eqb o k q) (rw (← view_next l n i d h g) (take-append-drop i (take n l)))
 
-    pub insert-here : (o ≡ k → ⊥) → k < o → insert offset a (take n l) ≡ take i (take n l) ++ (a ∷ drop i (take n l))
+    pub insert_here : (o ≡ k → ⊥) → k < o → insert offset a (take n l) ≡ take i (take n l) ++ (a ∷ drop i (take n l))
     unfolding insert
-    insert-here p q = inv ∙ rw (view-next l n i d h g, ← e, ← f, ne_eqb o k p, lt-ltb k o q)
+    insert_here p q = inv ∙ rw (view_next l n i d h g, ← e, ← f, ne_eqb o k p, lt-ltb k o q)
 
-    pub insert-later : (o ≡ k → ⊥) → o ≤ k → insert offset a (take n l) ≡ take (i + 1) (take n l)
+    pub insert_later : (o ≡ k → ⊥) → o ≤ k → insert offset a (take n l) ≡ take (i + 1) (take n l)
         ++ insert offset a (drop (i + 1) (take n l))
     unfolding insert
-    insert-later p q =
+    insert_later p q =
         let s : i < length (take n l) = rw (length-take-le n l g) h in
         inv
-        ∙ rw (view-next l n i d h g, ← e, ← f, ne_eqb o k p, le-ltb k o q, add-one, take-suc (take n l) i d s, get_or-take n l i d h)
+        ∙ rw (view_next l n i d h g, ← e, ← f, ne_eqb o k p, le-ltb k o q, add-one, take-suc (take n l) i d s, get_or-take n l i d h)
         (sym (append_snoc (take i (take n l)) (get_or l i d) (insert offset a (drop (suc i) (take n l)))))
 
 -- The count of those numbered next, next + 1 and so on: i so far, and those numbered from k on.
 module _ (l : List Waiting) (n i k total : ℕ) (inv : total ≡ i + run_of k (drop i (take n l))) where
   pub run_end : n ≤ i → total ≡ i
   unfolding run_of
-  run_end h = inv ∙ rw (view-end l n i h) (omega arith)
+  run_end h = inv ∙ rw (view_end l n i h) (omega arith)
 
   -- o is the offset of the entry at i
   module _ (d : Waiting) (o : ℕ) (h : i < n) (g : n ≤ length l) (e : o ≡ minus (get_or l i d).number k) where
-    pub run-stop : (o ≡ 0 → ⊥) → total ≡ i
+    pub run_stop : (o ≡ 0 → ⊥) → total ≡ i
     unfolding run_of
-    run-stop q = inv ∙ rw (view-next l n i d h g, ← e, ne_eqb o 0 q) (omega arith)
+    run_stop q = inv ∙ rw (view_next l n i d h g, ← e, ne_eqb o 0 q) (omega arith)
 
     pub run_more : (k' : ℕ) → k' ≡ plus k 1 → o ≡ 0 → total ≡ i + 1 + run_of k' (drop (i + 1) (take n l))
     unfolding run_of
-    run_more k' f q = inv ∙ rw (view-next l n i d h g, ← e, eq-eqb o 0 q, ← f) (omega arith)
+    run_more k' f q = inv ∙ rw (view_next l n i d h g, ← e, eq-eqb o 0 q, ← f) (omega arith)

@@ -5,24 +5,24 @@ use Rattle.lists.specs.declared.Outstanding.{Outstanding}
 use Rattle.lists.specs.declared.Sent.{Sent}
 use Rattle.timing.specs.declared.Record.{Record}
 use Rattle.lists.specs.declared.OutstandingList.{OutstandingList}
-use Rattle.lists.specs.Views.{outstandingOf}
+use Rattle.lists.specs.Views.{outstanding_of}
 
-abbrev pub withRecord : Outstanding → Record → Sent
-withRecord o r = record { held = o.held; transmissions = o.transmissions; «record» = r }
+abbrev pub with_record : Outstanding → Record → Sent
+with_record o r = record { held = o.held; transmissions = o.transmissions; «record» = r }
 
 -- each segment with the record at its index
 unfoldable pub joined : List Outstanding → List Record → List Sent
 joined [] rs = []
 joined (o ∷ l) [] = []
-joined (o ∷ l) (r ∷ rs) = withRecord o r ∷ joined l rs
+joined (o ∷ l) (r ∷ rs) = with_record o r ∷ joined l rs
 
-abbrev pub withoutRecord : Sent → Outstanding
-withoutRecord s = record { held = s.held; transmissions = s.transmissions }
+abbrev pub without_record : Sent → Outstanding
+without_record s = record { held = s.held; transmissions = s.transmissions }
 
-abbrev pub recordOf : Sent → Record
-recordOf s = s.record
+abbrev pub record_of : Sent → Record
+record_of s = s.record
 
 -- there are at most 32, and each with the record at its index they are l
 pub record JoinedIs (o : OutstandingList) (records : List Record) (l : List Sent) : Type 0 where
   pub fits : o.count ≤ 32
-  pub list : joined (outstandingOf o) records ≡ l
+  pub list : joined (outstanding_of o) records ≡ l

@@ -42,47 +42,47 @@ pub record First (least o limit : ℕ) (rest : Bool) : Type 0 where
   pub high : o < limit
   pub later : rest ≡ true
 
-first-of : (least o limit : ℕ) (rest : Bool) → leb least o && ltb o limit && rest ≡ true → First least o limit rest
-first-of least o limit rest h = go (leb least o) (ltb o limit) refl refl h
+first_of_lem : (least o limit : ℕ) (rest : Bool) → leb least o && ltb o limit && rest ≡ true → First least o limit rest
+first_of_lem least o limit rest h = go (leb least o) (ltb o limit) refl refl h
   where
     go : (p q : Bool) → leb least o ≡ p → ltb o limit ≡ q → p && q && rest ≡ true → First least o limit rest
     go true true e f h = record { low = leb-true least o e; high = ltb-true o limit f; later = h }
     go true false e f h = absurd (false≢true h)
     go false q e f h = absurd (false≢true h)
 
-of-first : (least o limit : ℕ) (rest : Bool) → First least o limit rest → leb least o && ltb o limit && rest ≡ true
-of-first least o limit rest f = rw (le-leb least o f.low, lt-ltb o limit f.high) f.later
+of_first : (least o limit : ℕ) (rest : Bool) → First least o limit rest → leb least o && ltb o limit && rest ≡ true
+of_first least o limit rest f = rw (le-leb least o f.low, lt-ltb o limit f.high) f.later
 
 module _ {A : Type 0} (offset : A → ℕ) where
-  pub ascending-first : (least limit : ℕ) (x : A) (l : List A) → ascending offset least limit (x ∷ l) ≡ true
+  pub ascending_first : (least limit : ℕ) (x : A) (l : List A) → ascending offset least limit (x ∷ l) ≡ true
       → First least (offset x) limit (ascending offset (offset x + 1) limit l)
   unfolding ascending
-  ascending-first least limit x l h = first-of least (offset x) limit (ascending offset (offset x + 1) limit l) h
+  ascending_first least limit x l h = first_of_lem least (offset x) limit (ascending offset (offset x + 1) limit l) h
 
-  pub ascending-cons : (least limit : ℕ) (x : A) (l : List A) → First least (offset x) limit (ascending offset (offset x + 1) limit l)
+  pub ascending_cons : (least limit : ℕ) (x : A) (l : List A) → First least (offset x) limit (ascending offset (offset x + 1) limit l)
       → ascending offset least limit (x ∷ l) ≡ true
   unfolding ascending
-  ascending-cons least limit x l f = of-first least (offset x) limit (ascending offset (offset x + 1) limit l) f
+  ascending_cons least limit x l f = of_first least (offset x) limit (ascending offset (offset x + 1) limit l) f
 
-  pub ascending-none : (least limit : ℕ) → ascending offset least limit [] ≡ true
+  pub ascending_none : (least limit : ℕ) → ascending offset least limit [] ≡ true
   unfolding ascending
-  ascending-none least limit = refl
+  ascending_none least limit = refl
 
   -- it is no longer than its span
-  pub ascending-length : (least limit : ℕ) (l : List A) → least ≤ limit → ascending offset least limit l ≡ true → least + length l ≤ limit
-  ascending-length least limit [] b h = omega arith
-  ascending-length least limit (x ∷ l) b h =
-      let f = ascending-first least limit x l h in
-      omega (arith, f.low, ascending-length (offset x + 1) limit l (omega (arith, f.high)) f.later)
+  pub ascending_length : (least limit : ℕ) (l : List A) → least ≤ limit → ascending offset least limit l ≡ true → least + length l ≤ limit
+  ascending_length least limit [] b h = omega arith
+  ascending_length least limit (x ∷ l) b h =
+      let f = ascending_first least limit x l h in
+      omega (arith, f.low, ascending_length (offset x + 1) limit l (omega (arith, f.high)) f.later)
 
   -- every offset that it has is of the span
-  pub ascending-held : (k least limit : ℕ) (l : List A) → ascending offset least limit l ≡ true → is_held offset k l ≡ true
+  pub ascending_held : (k least limit : ℕ) (l : List A) → ascending offset least limit l ≡ true → is_held offset k l ≡ true
       → (least ≤ k) × (k < limit)
   unfolding is_held
-  ascending-held k least limit [] h n = absurd (false≢true n)
-  ascending-held k least limit (x ∷ l) h n =
-      let f = ascending-first least limit x l h in
-      go (eqb (offset x) k) refl n f (ascending-held k (offset x + 1) limit l f.later)
+  ascending_held k least limit [] h n = absurd (false≢true n)
+  ascending_held k least limit (x ∷ l) h n =
+      let f = ascending_first least limit x l h in
+      go (eqb (offset x) k) refl n f (ascending_held k (offset x + 1) limit l f.later)
     where
       go : (t : Bool) → eqb (offset x) k ≡ t → (t || is_held offset k l) ≡ true
           → First least (offset x) limit (ascending offset (offset x + 1) limit l)
@@ -91,38 +91,38 @@ module _ {A : Type 0} (offset : A → ℕ) where
       go false e n f ih = let r = ih n in (omega (arith, f.low, r.0), r.1)
 
   -- where it lacks an offset of the span, it has room
-  pub ascending-room : (k least limit : ℕ) (l : List A) → least ≤ k → k < limit → ascending offset least limit l ≡ true
+  pub ascending_room : (k least limit : ℕ) (l : List A) → least ≤ k → k < limit → ascending offset least limit l ≡ true
       → is_held offset k l ≡ false → least + length l < limit
   unfolding is_held
-  ascending-room k least limit [] b c h n = omega arith
-  ascending-room k least limit (x ∷ l) b c h n =
-      go (order k (offset x)) n (ascending-first least limit x l h) (ascending-room k (offset x + 1) limit l)
+  ascending_room k least limit [] b c h n = omega arith
+  ascending_room k least limit (x ∷ l) b c h n =
+      go (order k (offset x)) n (ascending_first least limit x l h) (ascending_room k (offset x + 1) limit l)
     where
       go : Order k (offset x) → (eqb (offset x) k || is_held offset k l) ≡ false
           → First least (offset x) limit (ascending offset (offset x + 1) limit l)
           → (offset x + 1 ≤ k → k < limit → ascending offset (offset x + 1) limit l ≡ true → is_held offset k l ≡ false → offset x + 1
           + length l < limit) → least + suc (length l) < limit
       go (same e) n f ih = absurd (true≢false (rw (eq-eqb (offset x) k (sym e)) at n))
-      go (under p) n f ih = omega (arith, f.low, f.high, ascending-length (offset x + 1) limit l (omega (arith, f.high)) f.later)
+      go (under p) n f ih = omega (arith, f.low, f.high, ascending_length (offset x + 1) limit l (omega (arith, f.high)) f.later)
       go (over p) n f ih = omega (arith, f.low, ih (omega arith) c f.later (rw (ne_eqb (offset x) k (λ e. omega arith)) at n))
 
   -- a lower start
-  pub ascending-lower : (m least limit : ℕ) (l : List A) → m ≤ least → ascending offset least limit l ≡ true
+  pub ascending_lower : (m least limit : ℕ) (l : List A) → m ≤ least → ascending offset least limit l ≡ true
       → ascending offset m limit l ≡ true
-  ascending-lower m least limit [] b h = ascending-none m limit
-  ascending-lower m least limit (x ∷ l) b h =
-      let f = ascending-first least limit x l h in
-      ascending-cons m limit x l (record { low = omega (arith, f.low); high = f.high; later = f.later })
+  ascending_lower m least limit [] b h = ascending_none m limit
+  ascending_lower m least limit (x ∷ l) b h =
+      let f = ascending_first least limit x l h in
+      ascending_cons m limit x l (record { low = omega (arith, f.low); high = f.high; later = f.later })
 
   -- an entry of the span is inserted
   module _ (a : A) where
-    pub insert-ascending : (least limit : ℕ) (l : List A) → least ≤ offset a → offset a < limit → ascending offset least limit l ≡ true
+    pub insert_ascending : (least limit : ℕ) (l : List A) → least ≤ offset a → offset a < limit → ascending offset least limit l ≡ true
         → ascending offset least limit (insert offset a l) ≡ true
     unfolding insert
-    insert-ascending least limit [] b c h =
-        ascending-cons least limit a [] (record { low = b; high = c; later = ascending-none (offset a + 1) limit })
-    insert-ascending least limit (x ∷ l) b c h =
-        go (order (offset a) (offset x)) (ascending-first least limit x l h) (insert-ascending (offset x + 1) limit l)
+    insert_ascending least limit [] b c h =
+        ascending_cons least limit a [] (record { low = b; high = c; later = ascending_none (offset a + 1) limit })
+    insert_ascending least limit (x ∷ l) b c h =
+        go (order (offset a) (offset x)) (ascending_first least limit x l h) (insert_ascending (offset x + 1) limit l)
       where
         go : Order (offset a) (offset x) → First least (offset x) limit (ascending offset (offset x + 1) limit l)
             → (offset x + 1 ≤ offset a → offset a < limit → ascending offset (offset x + 1) limit l ≡ true
@@ -132,45 +132,45 @@ module _ {A : Type 0} (offset : A → ℕ) where
         go (same e) f ih = rw (eq-eqb (offset x) (offset a) (sym e)) h
         go (under p) f ih =
             rw (ne_eqb (offset x) (offset a) (λ e. omega arith), lt-ltb (offset a) (offset x) p)
-            (ascending-cons least limit a (x
+            (ascending_cons least limit a (x
             ∷ l) (record {
               low = b;
               high = c;
-              later = ascending-cons (offset a + 1) limit x l (record { low = omega arith; high = f.high; later = f.later });
+              later = ascending_cons (offset a + 1) limit x l (record { low = omega arith; high = f.high; later = f.later });
             }))
         go (over p) f ih =
             rw (ne_eqb (offset x) (offset a) (λ e. omega arith), le-ltb (offset a) (offset x) (omega arith))
-            (ascending-cons least limit x (insert offset a l)
+            (ascending_cons least limit x (insert offset a l)
             (record { low = f.low; high = f.high; later = ih (omega arith) c f.later }))
 
     -- so that it fits where the list did
-    pub insert-fits : (limit : ℕ) (l : List A) → offset a < limit → ascending offset 0 limit l ≡ true → length (insert offset a l) ≤ limit
-    insert-fits limit l c h = omega (
+    pub insert_fits : (limit : ℕ) (l : List A) → offset a < limit → ascending offset 0 limit l ≡ true → length (insert offset a l) ≤ limit
+    insert_fits limit l c h = omega (
       arith,
-      ascending-length 0 limit (insert offset a l) (omega arith) (insert-ascending 0 limit l (omega arith) c h),
+      ascending_length 0 limit (insert offset a l) (omega arith) (insert_ascending 0 limit l (omega arith) c h),
     )
 
     -- one whose offset is held is not
-    pub insert-held : (least limit : ℕ) (l : List A) → ascending offset least limit l ≡ true → is_held offset (offset a) l ≡ true
+    pub insert_held : (least limit : ℕ) (l : List A) → ascending offset least limit l ≡ true → is_held offset (offset a) l ≡ true
         → insert offset a l ≡ l
     unfolding insert is_held
-    insert-held least limit [] h n = absurd (false≢true n)
-    insert-held least limit (x ∷ l) h n =
-        go (eqb (offset x) (offset a)) n (ascending-first least limit x l h) (insert-held (offset x + 1) limit l)
+    insert_held least limit [] h n = absurd (false≢true n)
+    insert_held least limit (x ∷ l) h n =
+        go (eqb (offset x) (offset a)) n (ascending_first least limit x l h) (insert_held (offset x + 1) limit l)
       where
         go : (t : Bool) → (t || is_held offset (offset a) l) ≡ true → First least (offset x) limit (ascending offset (offset x + 1) limit l)
             → (ascending offset (offset x + 1) limit l ≡ true → is_held offset (offset a) l ≡ true → insert offset a l ≡ l)
             → cond t (x ∷ l) (cond (ltb (offset a) (offset x)) (a ∷ x ∷ l) (x ∷ insert offset a l)) ≡ x ∷ l
         go true n f ih = refl
         go false n f ih =
-            let r = ascending-held (offset a) (offset x + 1) limit l f.later n in
+            let r = ascending_held (offset a) (offset x + 1) limit l f.later n in
             rw (le-ltb (offset a) (offset x) (omega (arith, r.0)), ih f.later n)
 
     -- one whose offset is not held goes in somewhere
-    pub insert-between : (l : List A) → is_held offset (offset a) l ≡ false → Between a l (insert offset a l)
+    pub insert_between : (l : List A) → is_held offset (offset a) l ≡ false → Between a l (insert offset a l)
     unfolding insert is_held
-    insert-between [] n = record { front = []; back = []; was = refl; is = refl }
-    insert-between (x ∷ l) n = go (eqb (offset x) (offset a)) (ltb (offset a) (offset x)) n (insert-between l)
+    insert_between [] n = record { front = []; back = []; was = refl; is = refl }
+    insert_between (x ∷ l) n = go (eqb (offset x) (offset a)) (ltb (offset a) (offset x)) n (insert_between l)
       where
         go : (t u : Bool) → (t || is_held offset (offset a) l) ≡ false
             → (is_held offset (offset a) l ≡ false → Between a l (insert offset a l))
@@ -186,10 +186,10 @@ module _ {A : Type 0} (offset : A → ℕ) where
             }
 
     -- what is held afterwards
-    pub held-insert : (k : ℕ) (l : List A) → is_held offset k (insert offset a l) ≡ (eqb (offset a) k || is_held offset k l)
+    pub held_insert : (k : ℕ) (l : List A) → is_held offset k (insert offset a l) ≡ (eqb (offset a) k || is_held offset k l)
     unfolding insert is_held
-    held-insert k [] = refl
-    held-insert k (x ∷ l) = go (eqb (offset x) (offset a)) refl (ltb (offset a) (offset x)) (held-insert k l)
+    held_insert k [] = refl
+    held_insert k (x ∷ l) = go (eqb (offset x) (offset a)) refl (ltb (offset a) (offset x)) (held_insert k l)
       where
         go : (t : Bool) → eqb (offset x) (offset a) ≡ t → (u : Bool)
             → is_held offset k (insert offset a l) ≡ (eqb (offset a) k || is_held offset k l)
@@ -205,32 +205,32 @@ module _ {A : Type 0} (offset : A → ℕ) where
 
 -- the same list by offsets from a base that is j further on
 module _ {A : Type 0} (offset offset' : A → ℕ) (j : ℕ) (moved : (x : A) → j ≤ offset x → offset' x ≡ offset x - j) where
-  pub ascending-moved : (least limit limit' : ℕ) (l : List A) → j ≤ least → limit ≤ limit' + j → ascending offset least limit l ≡ true
+  pub ascending_moved : (least limit limit' : ℕ) (l : List A) → j ≤ least → limit ≤ limit' + j → ascending offset least limit l ≡ true
       → ascending offset' (least - j) limit' l ≡ true
-  ascending-moved least limit limit' [] b c h = ascending-none offset' (least - j) limit'
-  ascending-moved least limit limit' (x ∷ l) b c h =
-      let f = ascending-first offset least limit x l h in
+  ascending_moved least limit limit' [] b c h = ascending_none offset' (least - j) limit'
+  ascending_moved least limit limit' (x ∷ l) b c h =
+      let f = ascending_first offset least limit x l h in
       let low = f.low in
       let high = f.high in
       let e : offset' x ≡ offset x - j = moved x (omega arith) in
       let q : offset x + 1 - j ≡ offset' x + 1 = omega arith in
-      let ih = rw q at (ascending-moved (offset x + 1) limit limit' l (omega arith) c f.later) in
-      ascending-cons offset' (least - j) limit' x l (record { low = omega arith; high = omega arith; later = ih })
+      let ih = rw q at (ascending_moved (offset x + 1) limit limit' l (omega arith) c f.later) in
+      ascending_cons offset' (least - j) limit' x l (record { low = omega arith; high = omega arith; later = ih })
 
 -- a change that keeps each offset
-pub ascending-map : {A : Type 0} (offset : A → ℕ) (f : A → A) → ((x : A) → offset (f x) ≡ offset x) → (least limit : ℕ) (l : List A)
+pub ascending_map : {A : Type 0} (offset : A → ℕ) (f : A → A) → ((x : A) → offset (f x) ≡ offset x) → (least limit : ℕ) (l : List A)
     → ascending offset least limit (map f l) ≡ ascending offset least limit l
 unfolding ascending
-ascending-map offset f e least limit [] = refl
-ascending-map offset f e least limit (x ∷ l) = rw (e x, ascending-map offset f e (offset x + 1) limit l)
+ascending_map offset f e least limit [] = refl
+ascending_map offset f e least limit (x ∷ l) = rw (e x, ascending_map offset f e (offset x + 1) limit l)
 
 -- offsets from another base: one that is j further on, and one that is a number's own
-pub offset-plus : (base j n : ℕ) → base < 2 ^ 32 → j ≤ minus n base → minus n (plus base j) ≡ minus n base - j
-offset-plus base j n h g = omega arith
+pub offset_plus : (base j n : ℕ) → base < 2 ^ 32 → j ≤ minus n base → minus n (plus base j) ≡ minus n base - j
+offset_plus base j n h g = omega arith
 
-pub offset-from : (base b n : ℕ) → base < 2 ^ 32 → b < 2 ^ 32 → minus b base ≤ minus n base → minus n b ≡ minus n base - minus b base
-offset-from base b n h g e = omega arith
+pub offset_from : (base b n : ℕ) → base < 2 ^ 32 → b < 2 ^ 32 → minus b base ≤ minus n base → minus n b ≡ minus n base - minus b base
+offset_from base b n h g e = omega arith
 
 -- numbers with one offset are one number
-pub offset-same : (base m n : ℕ) → base < 2 ^ 32 → m < 2 ^ 32 → n < 2 ^ 32 → minus m base ≡ minus n base → m ≡ n
-offset-same base m n h g b e = omega arith
+pub offset_same : (base m n : ℕ) → base < 2 ^ 32 → m < 2 ^ 32 → n < 2 ^ 32 → minus m base ≡ minus n base → m ≡ n
+offset_same base m n h g b e = omega arith

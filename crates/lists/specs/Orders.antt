@@ -6,11 +6,11 @@ use Rattle.protocol.specs.Serial.{minus}
 use Rattle.lists.specs.declared.Waiting.{Waiting}
 use Rattle.lists.specs.declared.Sent.{Sent}
 
-abbrev pub waitingOffset : ℕ → Waiting → ℕ
-waitingOffset base w = minus w.number base
+abbrev pub waiting_offset : ℕ → Waiting → ℕ
+waiting_offset base w = minus w.number base
 
-abbrev pub sentOffset : ℕ → Sent → ℕ
-sentOffset base s = minus s.record.number base
+abbrev pub sent_offset : ℕ → Sent → ℕ
+sent_offset base s = minus s.record.number base
 
 module _ {A : Type 0} (offset : A → ℕ) where
   -- the offsets rise strictly, the first is at least `least`, and each is below `limit`

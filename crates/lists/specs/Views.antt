@@ -16,21 +16,21 @@ list_of at count = take count at
 abbrev pub held_of : HeldList → List Held
 held_of s = list_of s.at s.count
 
-abbrev pub waitingOf : WaitingList → List Waiting
-waitingOf s = list_of s.at s.count
+abbrev pub waiting_of : WaitingList → List Waiting
+waiting_of s = list_of s.at s.count
 
-abbrev pub outstandingOf : OutstandingList → List Outstanding
-outstandingOf s = list_of s.at s.count
+abbrev pub outstanding_of : OutstandingList → List Outstanding
+outstanding_of s = list_of s.at s.count
 
 -- the segment as its slot holds it
-abbrev pub waitingPart : Waiting → Held
-waitingPart w = w.held
+abbrev pub waiting_part : Waiting → Held
+waiting_part w = w.held
 
-abbrev pub outstandingPart : Outstanding → Held
-outstandingPart o = o.held
+abbrev pub outstanding_part : Outstanding → Held
+outstanding_part o = o.held
 
-abbrev pub sentPart : Sent → Held
-sentPart s = s.held
+abbrev pub sent_part : Sent → Held
+sent_part s = s.held
 
 -- the count is within the array's size, and the list is l
 pub record Holds {A : Type 0} (size : ℕ) (at : List A) (count : ℕ) (l : List A) : Type 0 where

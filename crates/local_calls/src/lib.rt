@@ -2,7 +2,7 @@
 // and changed in place. Proved by walks.
 ghost use Rattle.promises.specs.Parts.{parts_of};
 ghost use Rattle.promises.specs.Promises.{OpenPromise, SendPromise, ReadPromise};
-ghost use Rattle.codes.specs.Codes.{answerCode, countCode, settingsOf};
+ghost use Rattle.codes.specs.Codes.{answer_code, count_code, settings_of};
 ghost use Rattle.codes.specs.Gives.{Gives};
 
 use control::Link;
@@ -23,7 +23,7 @@ pub fn open(
     table: &[Record],
     acks: &[u32],
 ) -> i32
-    ensures { Gives answerCode (λ a. OpenPromise (settingsOf conv mtu mode interval threshold stream congestion) link.old
+    ensures { Gives answer_code (λ a. OpenPromise (settings_of conv mtu mode interval threshold stream congestion) link.old
         (parts_of send_pool.now receive_pool.now table.now acks.now)
         a link.new
         (parts_of send_pool.now receive_pool.now table.now acks.now)) result }
@@ -65,7 +65,7 @@ pub fn send(
     acks: &[u32],
     message: &[u8],
 ) -> i32
-    ensures { Gives answerCode (λ a. SendPromise message.now link.old
+    ensures { Gives answer_code (λ a. SendPromise message.now link.old
         (parts_of send_pool.old receive_pool.now table.now acks.now)
         a link.new
         (parts_of send_pool.new receive_pool.now table.now acks.now)) result }
@@ -113,7 +113,7 @@ pub fn read(
     acks: &[u32],
     buffer: &mut [u8],
 ) -> i32
-    ensures { Gives countCode (λ a. ReadPromise link.old
+    ensures { Gives count_code (λ a. ReadPromise link.old
         (parts_of send_pool.now receive_pool.now table.now acks.now)
         buffer.old a link.new
         (parts_of send_pool.now receive_pool.now table.now acks.now)

@@ -4,8 +4,8 @@
 // search for the next free slot goes on behind the last one taken.
 ghost use Rattle.std.specs.Prelude.{◌≡◌, true, ◌≤◌, ◌<◌, ◌%◌, length};
 ghost use Rattle.slots.specs.Slots.{slots_of, all_below};
-ghost use Rattle.words.specs.Words.{heldIn};
-ghost use Rattle.marks.specs.Marks.{Marks, none, noneToSend, nextFree};
+ghost use Rattle.words.specs.Words.{held_in};
+ghost use Rattle.marks.specs.Marks.{Marks, none, none_to_send, next_free};
 
 // The slot of a word.
 fn slot_of(word: u32) -> usize
@@ -16,7 +16,7 @@ fn slot_of(word: u32) -> usize
 
 // No send slot is marked.
 pub fn none_to_send() -> [u8; 128]
-    ensures { result ≡ noneToSend }
+    ensures { result ≡ none_to_send }
 {
     [0; 128]
 }
@@ -31,7 +31,7 @@ pub fn none() -> [u8; 256]
 // The slots of n words are marked. Whether none of them was marked before, and none stands twice.
 pub fn mark(marks: &mut [u8; 256], words: &[u32; 128], n: usize) -> bool
     requires { (length marks.old ≡ 256) × (length words.now ≡ 128) × (n ≤ 128) }
-    ensures { Marks 256 marks.old (slots_of (heldIn words.now n)) marks.new result }
+    ensures { Marks 256 marks.old (slots_of (held_in words.now n)) marks.new result }
 {
     let mut twice: u8 = 0;
     let mut i: usize = 0;
@@ -47,8 +47,8 @@ pub fn mark(marks: &mut [u8; 256], words: &[u32; 128], n: usize) -> bool
 // The same in the send pool, for the words of queued segments: their slots are below 128.
 pub fn mark_queued(marks: &mut [u8; 128], words: &[u32; 128], n: usize) -> bool
     requires { (length marks.old ≡ 128) × (length words.now ≡ 128) × (n ≤ 128)
-        × (all_below 128 (slots_of (heldIn words.now n)) ≡ true) }
-    ensures { Marks 128 marks.old (slots_of (heldIn words.now n)) marks.new result }
+        × (all_below 128 (slots_of (held_in words.now n)) ≡ true) }
+    ensures { Marks 128 marks.old (slots_of (held_in words.now n)) marks.new result }
 {
     let mut twice: u8 = 0;
     let mut i: usize = 0;
@@ -64,8 +64,8 @@ pub fn mark_queued(marks: &mut [u8; 128], words: &[u32; 128], n: usize) -> bool
 // The same for the words of outstanding segments.
 pub fn mark_outstanding(marks: &mut [u8; 128], words: &[u32; 32], n: usize) -> bool
     requires { (length marks.old ≡ 128) × (length words.now ≡ 32) × (n ≤ 32)
-        × (all_below 128 (slots_of (heldIn words.now n)) ≡ true) }
-    ensures { Marks 128 marks.old (slots_of (heldIn words.now n)) marks.new result }
+        × (all_below 128 (slots_of (held_in words.now n)) ≡ true) }
+    ensures { Marks 128 marks.old (slots_of (held_in words.now n)) marks.new result }
 {
     let mut twice: u8 = 0;
     let mut i: usize = 0;
@@ -80,8 +80,8 @@ pub fn mark_outstanding(marks: &mut [u8; 128], words: &[u32; 32], n: usize) -> b
 
 // The first slot from `from` on that is not marked; there is one. It is often `from`, which is looked at first: the compiler makes a call of the loop.
 pub fn free_from(marks: &[u8; 256], from: usize) -> usize
-    requires { (length marks.now ≡ 256) × (from ≤ 256) × (nextFree marks.now from < 256) }
-    ensures { result ≡ nextFree marks.now from }
+    requires { (length marks.now ≡ 256) × (from ≤ 256) × (next_free marks.now from < 256) }
+    ensures { result ≡ next_free marks.now from }
 {
     if marks[from] == 0 {
         return from;
@@ -95,8 +95,8 @@ pub fn free_from(marks: &[u8; 256], from: usize) -> usize
 
 // The same in the send pool.
 pub fn free_to_send(marks: &[u8; 128], from: usize) -> usize
-    requires { (length marks.now ≡ 128) × (from ≤ 256) × (nextFree marks.now from < 128) }
-    ensures { result ≡ nextFree marks.now from }
+    requires { (length marks.now ≡ 128) × (from ≤ 256) × (next_free marks.now from < 128) }
+    ensures { result ≡ next_free marks.now from }
 {
     if marks[from] == 0 {
         return from;

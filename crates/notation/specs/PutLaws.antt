@@ -5,20 +5,20 @@ use Rattle.std.proofs.Common.{◌∙◌, sym, append_assoc, append-nil, add-one,
 use Rattle.std.proofs.Math.Decide.{dec_le}
 use Rattle.std.proofs.lemmas.List.Edits.{sets}
 use Rattle.std.proofs.Math.Seq.{set_out, length-sets}
-use Rattle.wire.specs.Stores.{sets-append}
+use Rattle.wire.specs.Stores.{sets_append}
 use Rattle.notation.specs.Puts.{Put}
 
 -- nothing is stored past the end
-sets-past : (l : List ℕ) (i : ℕ) (t : List ℕ) → length l ≤ i → sets l i t ≡ l
-sets-past l i [] h = refl
-sets-past l i (a ∷ t) h = rw (set_out l i a) (sets-past l (suc i) t (omega arith))
+sets_past : (l : List ℕ) (i : ℕ) (t : List ℕ) → length l ≤ i → sets l i t ≡ l
+sets_past l i [] h = refl
+sets_past l i (a ∷ t) h = rw (set_out l i a) (sets_past l (suc i) t (omega arith))
 
-pub put-none : (l : List ℕ) (i : ℕ) → Put l i [] i l
-put-none l i = record { bytes = refl; next = omega arith }
+pub put_none : (l : List ℕ) (i : ℕ) → Put l i [] i l
+put_none l i = record { bytes = refl; next = omega arith }
 
 -- without room nothing is put
 pub put_full : (l : List ℕ) (i : ℕ) (t : List ℕ) → length l ≤ i → Put l i t i l
-put_full l i t h = record { bytes = sym (sets-past l i t h); next = omega arith }
+put_full l i t h = record { bytes = sym (sets_past l i t h); next = omega arith }
 
 -- t, and u behind it
 pub put_then : (was mid is : List ℕ) (i j k : ℕ) (t u : List ℕ) → Put was i t j mid → Put mid j u k is → Put was i (t ++ u) k is
@@ -33,13 +33,13 @@ put_then was mid is i j k t u a b = go (dec_le (i + length t) (length was))
     go : Dec (i + length t ≤ length was) → Put was i (t ++ u) k is
     go (yes h) =
         let j-is : j ≡ i + length t = omega (arith, a.next) in
-        record { bytes = rw (b.bytes, a.bytes, j-is, sets-append was i t u); next = next }
+        record { bytes = rw (b.bytes, a.bytes, j-is, sets_append was i t u); next = next }
     go (no h) =
         let past : length mid ≤ j = omega (arith, long, a.next) in
         let past' : length (sets was i t) ≤ i + length t = rw (length-sets was i t) (omega arith) in
         record {
-          bytes = rw (sets-append was i t u, sets-past (sets was i t) (i + length t) u past')
-              (b.bytes ∙ sets-past mid j u past ∙ a.bytes);
+          bytes = rw (sets_append was i t u, sets_past (sets was i t) (i + length t) u past')
+              (b.bytes ∙ sets_past mid j u past ∙ a.bytes);
           next = next;
         }
 
@@ -49,8 +49,8 @@ pub put_next : (was mid is : List ℕ) (i j k : ℕ) (s : List ℕ) (n : ℕ) �
 put_next was mid is i j k s n h a b = rw (add-one, take-suc s n 0) (put_then was mid is i j k _ _ a b)
 
 -- the output keeps its length
-pub put-length : (was : List ℕ) (i : ℕ) (t : List ℕ) (r : ℕ) (is : List ℕ) → Put was i t r is → length is ≡ length was
-put-length was i t r is p = rw p.bytes (length-sets was i t)
+pub put_length : (was : List ℕ) (i : ℕ) (t : List ℕ) (r : ℕ) (is : List ℕ) → Put was i t r is → length is ≡ length was
+put_length was i t r is p = rw p.bytes (length-sets was i t)
 
 -- ---- text that is put part by part
 
@@ -61,7 +61,7 @@ pub record Partly (was : List ℕ) (i : ℕ) (all : List ℕ) (here : ℕ) (now 
   pub whole : first ++ rest ≡ all
 
 pub partly_none : (l : List ℕ) (i : ℕ) (all : List ℕ) → Partly l i all i l all
-partly_none l i all = record { first = []; put = put-none l i; whole = refl }
+partly_none l i all = record { first = []; put = put_none l i; whole = refl }
 
 -- one part more
 pub partly_more : (was mid is : List ℕ) (i j k : ℕ) (all rest t u : List ℕ) → Partly was i all j mid rest → rest ≡ t ++ u → Put mid j t k is
@@ -69,7 +69,7 @@ pub partly_more : (was mid is : List ℕ) (i j k : ℕ) (all rest t u : List ℕ
 partly_more was mid is i j k all rest t u p e q =
     record { first = p.first ++ t; put = put_then _ _ _ _ _ _ _ _ p.put q; whole = rw append_assoc (rw e at p.whole) }
 
-pub partly-all : (was is : List ℕ) (i k : ℕ) (all rest : List ℕ) → Partly was i all k is rest → rest ≡ [] → Put was i all k is
-partly-all was is i k all rest p e =
+pub partly_all : (was is : List ℕ) (i k : ℕ) (all rest : List ℕ) → Partly was i all k is rest → rest ≡ [] → Put was i all k is
+partly_all was is i k all rest p e =
     let same : all ≡ p.first = sym (rw e at p.whole) ∙ append-nil p.first in
     rw same p.put

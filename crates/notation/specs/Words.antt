@@ -5,8 +5,8 @@ use Rattle.notation.specs.Decimal.{value}
 use Rattle.notation.specs.declared.Number.{Number}
 use Rattle.notation.specs.declared.Number.TheVariants.{Of, Malformed}
 
-abbrev pub isDigit : ℕ → Bool
-isDigit c = leb 48 c && leb c 57
+abbrev pub is_digit : ℕ → Bool
+is_digit c = leb 48 c && leb c 57
 
 -- the test holds of each byte
 unfoldable pub every : (ℕ → Bool) → List ℕ → Bool
@@ -14,13 +14,13 @@ every test [] = true
 every test (c ∷ w) = test c && every test w
 
 -- two bytes or more, the first of them a zero
-abbrev pub leadingZero : List ℕ → Bool
-leadingZero w = not (ltb (length w) 2) && eqb (get_or w 0 0) 48
+abbrev pub leading_zero : List ℕ → Bool
+leading_zero w = not (ltb (length w) 2) && eqb (get_or w 0 0) 48
 
 -- decimal without sign or leading zeros
-unfoldable pub isDecimal : List ℕ → Bool
-isDecimal w = ltb 0 (length w) && not (leadingZero w) && every isDigit w
+unfoldable pub is_decimal : List ℕ → Bool
+is_decimal w = ltb 0 (length w) && not (leading_zero w) && every is_digit w
 
 -- a number of at most 32 bits
 unfoldable pub number_of : List ℕ → Number
-number_of w = cond (isDecimal w && leb (value 0 w) 4294967295) (Of (value 0 w)) Malformed
+number_of w = cond (is_decimal w && leb (value 0 w) 4294967295) (Of (value 0 w)) Malformed

@@ -1,7 +1,7 @@
 // Text put into lent output at a place, as far as there is room; the answer is the place behind it.
 ghost use Rattle.std.specs.Prelude.{◌≡◌, [], ◌∷◌, ◌<◌};
 ghost use Rattle.notation.specs.Decimal.{decimal};
-ghost use Rattle.notation.specs.Hex.{hexDigit, hexOf, bytesWord};
+ghost use Rattle.notation.specs.Hex.{hex_digit, hex_of, bytes_word};
 ghost use Rattle.notation.specs.Puts.{Put};
 
 pub fn byte(out: &mut [u8], at: usize, b: u8) -> usize
@@ -40,14 +40,14 @@ pub fn number(out: &mut [u8], at: usize, n: u64) -> usize
 // The digit of a number below 16, in lower case.
 fn hex_digit(n: u8) -> u8
     requires { n < 16 }
-    ensures { result ≡ hexDigit n }
+    ensures { result ≡ hex_digit n }
 {
     if n < 10 { b'0' + n } else { 87 + n }
 }
 
 // The two digits of a byte.
 fn hex_byte(out: &mut [u8], at: usize, b: u8) -> usize
-    ensures { Put out.old at (hexOf (b ∷ [])) result out.new }
+    ensures { Put out.old at (hex_of (b ∷ [])) result out.new }
 {
     let next = byte(out, at, hex_digit(b / 16));
     byte(out, next, hex_digit(b % 16))
@@ -55,7 +55,7 @@ fn hex_byte(out: &mut [u8], at: usize, b: u8) -> usize
 
 // Bytes in hex, two digits each; `-` where there are none.
 pub fn hex(out: &mut [u8], at: usize, s: &[u8]) -> usize
-    ensures { Put out.old at (bytesWord s.now) result out.new }
+    ensures { Put out.old at (bytes_word s.now) result out.new }
 {
     if s.len() == 0 {
         return byte(out, at, b'-');

@@ -1,8 +1,8 @@
 // Words read as numbers and as bytes.
 ghost use Rattle.std.specs.Prelude.{◌≡◌, ◌-◌, ◌/◌, ◌≤◌, ◌<◌, length};
 ghost use Rattle.std.proofs.lemmas.List.Edits.{sets};
-ghost use Rattle.notation.specs.Words.{isDigit, leadingZero, number_of};
-ghost use Rattle.notation.specs.Hex.{isHexDigit, hexValue, isHex, isDash, unhex, ReadBytes};
+ghost use Rattle.notation.specs.Words.{is_digit, leading_zero, number_of};
+ghost use Rattle.notation.specs.Hex.{is_hex_digit, hex_value, is_hex, is_dash, unhex, ReadBytes};
 
 use crate::{Bytes, Number};
 
@@ -10,7 +10,7 @@ use crate::{Bytes, Number};
 const MOST: u64 = 4294967295;
 
 fn is_digit(c: u8) -> bool
-    ensures { result ≡ isDigit c }
+    ensures { result ≡ is_digit c }
 {
     (48 <= c) & (c <= 57)
 }
@@ -24,7 +24,7 @@ fn digit_value(c: u8) -> u64
 
 // Whether a word of two bytes or more starts with `0`.
 fn leading_zero(s: &[u8]) -> bool
-    ensures { result ≡ leadingZero s.now }
+    ensures { result ≡ leading_zero s.now }
 {
     if s.len() < 2 {
         return false;
@@ -59,14 +59,14 @@ pub fn number(s: &[u8]) -> Number
 }
 
 fn is_hex_digit(c: u8) -> bool
-    ensures { result ≡ isHexDigit c }
+    ensures { result ≡ is_hex_digit c }
 {
     is_digit(c) | (97 <= c) & (c <= 102)
 }
 
 // The value of a digit; 0 where it is none.
 fn hex_value(c: u8) -> u8
-    ensures { (result ≡ hexValue c) × (result < 16) }
+    ensures { (result ≡ hex_value c) × (result < 16) }
 {
     if is_digit(c) {
         return c - 48;
@@ -79,7 +79,7 @@ fn hex_value(c: u8) -> u8
 
 // Whether a word is digits, an even number of them.
 fn is_hex(s: &[u8]) -> bool
-    ensures { result ≡ isHex s.now }
+    ensures { result ≡ is_hex s.now }
 {
     if s.len() % 2 != 0 {
         return false;
@@ -95,7 +95,7 @@ fn is_hex(s: &[u8]) -> bool
 }
 
 fn is_dash(s: &[u8]) -> bool
-    ensures { result ≡ isDash s.now }
+    ensures { result ≡ is_dash s.now }
 {
     if s.len() == 1 {
         return s[0] == b'-';

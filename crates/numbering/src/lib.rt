@@ -1,9 +1,9 @@
 // Queued segments get numbers, in place: their words move behind those of the outstanding segments.
 ghost use Rattle.std.specs.Prelude.{◌≡◌, ◌++◌, ◌+◌, ◌≤◌, min, length};
 ghost use Rattle.session.specs.Flushing.{numbered};
-ghost use Rattle.words.specs.Words.{heldIn};
-ghost use Rattle.record_words.specs.RecordWords.{recordsIn};
-ghost use Rattle.numbering.specs.Sents.{sentIn, SentFront};
+ghost use Rattle.words.specs.Words.{held_in};
+ghost use Rattle.record_words.specs.RecordWords.{records_in};
+ghost use Rattle.numbering.specs.Sents.{sent_in, SentFront};
 ghost use Rattle.numbering.specs.Numbering.{count_of, Numberable, Numbers};
 
 use control::Flight;
@@ -53,8 +53,8 @@ fn number_first(
     requires { (length queued.now ≡ 128) × (length outstanding.old ≡ 32) × (length transmissions.old ≡ 32)
         × (length records.old ≡ 128) × (n + k ≤ 32) }
     ensures { SentFront outstanding.new transmissions.new records.new (n + k)
-        (sentIn outstanding.old transmissions.old (recordsIn records.old) n
-        ++ numbered next (heldIn queued.now k)) }
+        (sent_in outstanding.old transmissions.old (records_in records.old) n
+        ++ numbered next (held_in queued.now k)) }
 {
     let mut number = next;
     let mut i: usize = 0;

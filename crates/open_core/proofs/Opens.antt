@@ -16,7 +16,7 @@ use Rattle.session.specs.Opening.{opening, opened}
 use Rattle.answers.specs.declared.Answer.TheVariants.{Accepted, Refused}
 use Rattle.words.specs.Words.{paired}
 use Rattle.control.specs.declared.Link.{Link}
-use Rattle.control.specs.Views.{Arrays, link_of, pairs, state_of, countsFit}
+use Rattle.control.specs.Views.{Arrays, link_of, pairs, state_of, counts_fit}
 use Rattle.promises.specs.Cores.{OpenCore}
 use Rattle.open_core.specs.declared.Opened.{Opened}
 use Rattle.open_core.specs.Fresh.{IsFresh}
@@ -41,22 +41,22 @@ made c =
     }
 
 module _ (c : Settings) where
-  counted : (x : Arrays) → countsFit (link_of c (made c).flight (made c).arrival (made c).clock x) ≡ true
-  unfolding countsFit
+  counted : (x : Arrays) → counts_fit (link_of c (made c).flight (made c).arrival (made c).clock x) ≡ true
+  unfolding counts_fit
   counted x = refl
 
-  fresh-state : (x : Arrays) (records : List Record) (acks : List ℕ)
+  fresh_state : (x : Arrays) (records : List Record) (acks : List ℕ)
       → state_of (link_of c (made c).flight (made c).arrival (made c).clock x) records acks ≡ opened c
   unfolding state_of opened pairs joined paired
-  fresh-state x records acks = refl
+  fresh_state x records acks = refl
 
-  pub is-fresh : IsFresh c (made c)
-  is-fresh = record { answer = refl; counts = counted; state = fresh-state }
+  pub is_fresh_lem : IsFresh c (made c)
+  is_fresh_lem = record { answer = refl; counts = counted; state = fresh_state }
 
 module _ (c : Settings) (n : Lengths) (l : Link) (fit : Bool) (e : fit ≡ in_range c) where
   module _ (long : Bool) (f : long ≡ enough (mss c) n) (t : not fit ≡ false) where
-    in-range : in_range c ≡ true
-    in-range = sym e ∙ passed fit t
+    in_range_lem : in_range c ≡ true
+    in_range_lem = sym e ∙ passed fit t
       where
         passed : (b : Bool) → not b ≡ false → b ≡ true
         passed true q = refl
@@ -65,11 +65,11 @@ module _ (c : Settings) (n : Lengths) (l : Link) (fit : Bool) (e : fit ≡ in_ra
     pub accepts : long ≡ true → (o : Opened) → IsFresh c o → (x : Arrays)
         → OpenCore (opening c n) l o.answer (link_of o.settings o.flight o.arrival o.clock x)
     unfolding opening
-    accepts u o i x = rw (in-range, sym f ∙ u) (record { answer = i.answer; counts = i.counts x; state = i.state x })
+    accepts u o i x = rw (in_range_lem, sym f ∙ u) (record { answer = i.answer; counts = i.counts x; state = i.state x })
 
     pub short : long ≡ false → OpenCore (opening c n) l (Refused ShortPart) l
     unfolding opening
-    short u = rw (in-range, sym f ∙ u) (refl, refl)
+    short u = rw (in_range_lem, sym f ∙ u) (refl, refl)
 
   pub out_of_range : not fit ≡ true → OpenCore (opening c n) l (Refused SettingOutOfRange) l
   unfolding opening

@@ -1,7 +1,7 @@
 // Opening a link over the block in place: its numbers alone, since what stands in an array past its count is not state.
 ghost use Rattle.control.specs.Views.{Arrays, link_of};
-ghost use Rattle.promises.specs.Parts.{lentLengths};
-ghost use Rattle.promises.specs.Outcomes.{opensWith};
+ghost use Rattle.promises.specs.Parts.{lent_lengths};
+ghost use Rattle.promises.specs.Outcomes.{opens_with};
 ghost use Rattle.promises.specs.Cores.{OpenCore};
 ghost use Rattle.open_core.specs.Fresh.{IsFresh};
 
@@ -78,7 +78,7 @@ pub fn open(
     acks: &[u32],
 ) -> Opened
     ensures { (x : Arrays) →
-        OpenCore (opensWith new (lentLengths table send_pool.now receive_pool.now acks.now))
+        OpenCore (opens_with new (lent_lengths table send_pool.now receive_pool.now acks.now))
         (link_of settings flight arrival clock x) result.answer (link_of result.settings result.flight result.arrival result.clock x) }
 {
     let lent = Lengths {

@@ -4,7 +4,7 @@ use Rattle.std.specs.Prelude.{◌≡◌, Bool, cond, ℕ, ◌+◌, ◌-◌, ◌�
 use mathlib.Core.List.{List, [], ◌∷◌, ◌++◌, map, foldl}
 use Rattle.std.proofs.lemmas.List.Edits.{sets}
 use Rattle.datagram.specs.Datagrams.{Segment}
-use Rattle.session.specs.Flushing.{Packing, bytesOfSegments, packOne}
+use Rattle.session.specs.Flushing.{Packing, bytes_of_segments, pack_one}
 use Rattle.session.specs.Flushing as session
 use Rattle.packing.specs.declared.Packer.{Packer}
 use Rattle.packing.specs.declared.Carried.{Carried}
@@ -21,19 +21,19 @@ joined [] = []
 joined (d ∷ ds) = d ++ joined ds
 
 -- the length of each
-unfoldable pub lengthsOf : List (List ℕ) → List ℕ
-lengthsOf [] = []
-lengthsOf (d ∷ ds) = length d ∷ lengthsOf ds
+unfoldable pub lengths_of : List (List ℕ) → List ℕ
+lengths_of [] = []
+lengths_of (d ∷ ds) = length d ∷ lengths_of ds
 
 -- the output's first bytes are the datagrams, its first lengths theirs, and count is their number; what stands beyond keeps its values
 pub record Output (ds : List (List ℕ)) (out₀ lengths₀ : List ℕ) (count : ℕ) (out lengths : List ℕ) : Type 0 where
   pub bytes : out ≡ sets out₀ 0 (joined ds)
-  pub sizes : lengths ≡ sets lengths₀ 0 (lengthsOf ds)
+  pub sizes : lengths ≡ sets lengths₀ 0 (lengths_of ds)
   pub number : count ≡ length ds
 
 -- the bytes of each datagram of segments
-abbrev pub bytesOfDatagrams : List (List Segment) → List (List ℕ)
-bytesOfDatagrams = map bytesOfSegments
+abbrev pub bytes_of_datagrams : List (List Segment) → List (List ℕ)
+bytes_of_datagrams = map bytes_of_segments
 
 -- ---- a packer
 
@@ -43,10 +43,10 @@ none = record { at = 0; start = 0; count = 0 }
 
 -- the packer k has put this packing into the output: the closed datagrams with their lengths, then the one that is being filled
 pub record Packs (out₀ lengths₀ : List ℕ) (p : Packing) (k : Packer) (out lengths : List ℕ) : Type 0 where
-  pub bytes : out ≡ sets out₀ 0 (joined (bytesOfDatagrams p.closed) ++ bytesOfSegments p.filling)
-  pub sizes : lengths ≡ sets lengths₀ 0 (lengthsOf (bytesOfDatagrams p.closed))
-  pub start : k.start ≡ length (joined (bytesOfDatagrams p.closed))
-  pub at : k.at ≡ k.start + length (bytesOfSegments p.filling)
+  pub bytes : out ≡ sets out₀ 0 (joined (bytes_of_datagrams p.closed) ++ bytes_of_segments p.filling)
+  pub sizes : lengths ≡ sets lengths₀ 0 (lengths_of (bytes_of_datagrams p.closed))
+  pub start : k.start ≡ length (joined (bytes_of_datagrams p.closed))
+  pub at : k.at ≡ k.start + length (bytes_of_segments p.filling)
   pub count : k.count ≡ length p.closed
 
 -- the datagrams that it has begun: those closed, and the one that is being filled unless it is empty
@@ -69,12 +69,12 @@ pub record Room (mtu n m : ℕ) (k : Packer) (out lengths : List ℕ) : Type 0 w
 pub record Adds (mtu : ℕ) (gs : List Segment) (n m : ℕ) (k : Packer) (out lengths : List ℕ) (k' : Packer) (out' lengths' : List ℕ) : Type 0
   where
     pub packs : (out₀ lengths₀ : List ℕ) (p : Packing) → Packs out₀ lengths₀ p k out lengths
-        → Packs out₀ lengths₀ (foldl (packOne mtu) p gs) k' out' lengths'
+        → Packs out₀ lengths₀ (foldl (pack_one mtu) p gs) k' out' lengths'
     pub fills : Fills mtu k'
     pub bytes : k'.at ≤ k.at + n
     pub datagrams : begun k' ≤ begun k + m
-    pub out-length : length out' ≡ length out
-    pub lengths-length : length lengths' ≡ length lengths
+    pub out_length : length out' ≡ length out
+    pub lengths_length : length lengths' ≡ length lengths
 
 -- ---- the steps of a packer
 
@@ -86,13 +86,13 @@ fits mtu n k = leb (k.at - k.start + n) mtu
 abbrev pub closed : Packer → Packer
 closed k = record { at = k.at; start = k.at; count = k.count + 1 }
 
-abbrev pub withLength : Packer → List ℕ → List ℕ
-withLength k lengths = set lengths k.count (k.at - k.start)
+abbrev pub with_length : Packer → List ℕ → List ℕ
+with_length k lengths = set lengths k.count (k.at - k.start)
 
 -- n bytes are to come: what would take a datagram past mtu starts a new one
 pub record MakesRoom (mtu n : ℕ) (k : Packer) (lengths : List ℕ) (k' : Packer) (lengths' : List ℕ) : Type 0 where
   pub packer : k' ≡ cond (fits mtu n k) k (closed k)
-  pub sizes : lengths' ≡ cond (fits mtu n k) lengths (withLength k lengths)
+  pub sizes : lengths' ≡ cond (fits mtu n k) lengths (with_length k lengths)
 
 -- these bytes are put, the first of n that are to come
 pub record Puts (mtu n : ℕ) (bytes : List ℕ) (k : Packer) (out lengths : List ℕ) (k' : Packer) (out' lengths' : List ℕ) : Type 0 where
@@ -100,9 +100,9 @@ pub record Puts (mtu n : ℕ) (bytes : List ℕ) (k : Packer) (out lengths : Lis
   pub at : k'.at ≡ k.at + length bytes
   pub start : k'.start ≡ cond (fits mtu n k) k.start k.at
   pub count : k'.count ≡ cond (fits mtu n k) k.count (k.count + 1)
-  pub sizes : lengths' ≡ cond (fits mtu n k) lengths (withLength k lengths)
+  pub sizes : lengths' ≡ cond (fits mtu n k) lengths (with_length k lengths)
 
 -- the last datagram is closed, unless it is empty
 pub record Finishes (k : Packer) (lengths : List ℕ) (count : ℕ) (lengths' : List ℕ) : Type 0 where
   pub number : count ≡ begun k
-  pub sizes : lengths' ≡ cond (eqb k.at k.start) lengths (withLength k lengths)
+  pub sizes : lengths' ≡ cond (eqb k.at k.start) lengths (with_length k lengths)

@@ -1,8 +1,8 @@
 // Segments packed into datagrams, straight into lent output.
 ghost use Rattle.std.specs.Prelude.{◌≡◌, ◌+◌, ◌-◌, ◌*◌, ◌≤◌, ◌<◌, length};
 ghost use Rattle.wire.specs.Headers.{encode};
-ghost use Rattle.session.specs.Flushing.{bytesOfSegment, control, dataSegment};
-ghost use Rattle.packing.specs.Packers.{carried_of, none, begun, closed, withLength, Fills, Room, MakesRoom, Puts, Finishes};
+ghost use Rattle.session.specs.Flushing.{bytes_of_segment, control, data_segment};
+ghost use Rattle.packing.specs.Packers.{carried_of, none, begun, closed, with_length, Fills, Room, MakesRoom, Puts, Finishes};
 
 use lists::Sent;
 use protocol::Protocol;
@@ -39,7 +39,7 @@ impl Packer {
 // The datagram that is being filled is closed: its length is noted, and the next one starts behind it.
 fn close(packer: Packer, mtu: usize, lengths: &mut [u16]) -> Packer
     requires { Fills mtu packer × (packer.count < length lengths.old) }
-    ensures { (result ≡ closed packer) × (lengths.new ≡ withLength packer lengths.old) }
+    ensures { (result ≡ closed packer) × (lengths.new ≡ with_length packer lengths.old) }
 {
     let n = packer.count;
     lengths[n] = (packer.at - packer.start) as u16;
@@ -90,7 +90,7 @@ pub fn put_control(
     lengths: &mut [u16],
 ) -> Packer
     requires { Room mtu 24 1 packer out.old lengths.old × (24 ≤ mtu) }
-    ensures { Puts mtu 24 (bytesOfSegment (control (carried_of carried) cmd sn ts)) packer out.old lengths.old result
+    ensures { Puts mtu 24 (bytes_of_segment (control (carried_of carried) cmd sn ts)) packer out.old lengths.old result
         out.new lengths.new }
 {
     let header = Header {
@@ -120,7 +120,7 @@ pub fn put_data(
     requires { Room mtu (24 + sent.held.len) 1 packer out.old lengths.old × (24 + sent.held.len ≤ mtu) ×
         (sent.held.slot * (mtu - 24) + sent.held.len ≤ length pool.now) }
     ensures { Puts mtu (24 + sent.held.len)
-        (bytesOfSegment (dataSegment (carried_of carried) (mtu - 24) t pool.now sent)) packer out.old
+        (bytes_of_segment (data_segment (carried_of carried) (mtu - 24) t pool.now sent)) packer out.old
         lengths.old result out.new lengths.new }
 {
     let held = sent.held;

@@ -7,35 +7,35 @@ use Rattle.std.proofs.Math.Seq.{take-append_seam, drop-append_seam}
 use Rattle.frames.specs.declared.Answer.{Answer}
 use Rattle.frames.specs.declared.Answer.TheVariants.{Written, Refused}
 use Rattle.frames.specs.declared.Refusal.{Refusal}
-use Rattle.frames.specs.Lists.{listed, joined, lengthsOf, parts}
-use Rattle.frames.specs.Outcomes.{Outcome, refused, wrote, answer_of, bytesAfter, lengthsAfter, Gives}
-use Rattle.frames.specs.PartLaws.{length-lengths, length-joined-next}
+use Rattle.frames.specs.Lists.{listed, joined, lengths_of, parts}
+use Rattle.frames.specs.Outcomes.{Outcome, refused, wrote, answer_of, bytes_after, lengths_after, Gives}
+use Rattle.frames.specs.PartLaws.{length_lengths, length_joined_next}
 
-parts-joined : (l : List (List ℕ)) (rest : List ℕ) → parts (joined l ++ rest) (lengthsOf l) ≡ l
-unfolding parts joined lengthsOf
-parts-joined [] rest = refl
-parts-joined (x ∷ l) rest =
-    rw (append_assoc, take-append_seam, drop-append_seam) (ap (λ (m : List (List ℕ)). x ∷ m) (parts-joined l rest))
+parts_joined : (l : List (List ℕ)) (rest : List ℕ) → parts (joined l ++ rest) (lengths_of l) ≡ l
+unfolding parts joined lengths_of
+parts_joined [] rest = refl
+parts_joined (x ∷ l) rest =
+    rw (append_assoc, take-append_seam, drop-append_seam) (ap (λ (m : List (List ℕ)). x ∷ m) (parts_joined l rest))
 
-sets-front : (out xs : List ℕ) → length xs ≤ length out → sets out 0 xs ≡ xs ++ drop (length xs) out
-sets-front out xs h = sets-eq xs out 0 (rw zero-add h) ∙ rw zero-add
+sets_front : (out xs : List ℕ) → length xs ≤ length out → sets out 0 xs ≡ xs ++ drop (length xs) out
+sets_front out xs h = sets-eq xs out 0 (rw zero-add h) ∙ rw zero-add
 
 -- where there was room
-pub seen-again : (l : List (List ℕ)) (out lens : List ℕ) → length (joined l) ≤ length out → length l ≤ length lens →
-    parts (sets out 0 (joined l)) (take (length l) (sets lens 0 (lengthsOf l))) ≡ l
-seen-again l out lens h g =
-    ap₂ parts (sets-front out (joined l) h)
-    (ap (take (length l)) (sets-front lens (lengthsOf l) (rw (length-lengths l) g)) ∙ take_at (lengthsOf l)
-    (drop (length (lengthsOf l)) lens) (length l) (length-lengths l))
-    ∙ parts-joined l (drop (length (joined l)) out)
+pub seen_again : (l : List (List ℕ)) (out lens : List ℕ) → length (joined l) ≤ length out → length l ≤ length lens →
+    parts (sets out 0 (joined l)) (take (length l) (sets lens 0 (lengths_of l))) ≡ l
+seen_again l out lens h g =
+    ap₂ parts (sets_front out (joined l) h)
+    (ap (take (length l)) (sets_front lens (lengths_of l) (rw (length_lengths l) g)) ∙ take_at (lengths_of l)
+    (drop (length (lengths_of l)) lens) (length l) (length_lengths l))
+    ∙ parts_joined l (drop (length (joined l)) out)
 
 -- n parts of at most b bytes each
-pub joined-most : (f : ℕ → List ℕ) (b n : ℕ) → ((p : ℕ) → p < n → length (f p) ≤ b) → length (joined (listed f n)) ≤ n * b
+pub joined_most : (f : ℕ → List ℕ) (b n : ℕ) → ((p : ℕ) → p < n → length (f p) ≤ b) → length (joined (listed f n)) ≤ n * b
 unfolding listed joined
-joined-most f b zero h = omega arith
-joined-most f b (suc n) h =
-    let i : length (joined (listed f n)) ≤ n * b = joined-most f b n (λ p l. h p (omega arith)) in
-    let s : length (joined (listed f (n + 1))) ≡ length (joined (listed f n)) + length (f n) = length-joined-next f n in
+joined_most f b zero h = omega arith
+joined_most f b (suc n) h =
+    let i : length (joined (listed f n)) ≤ n * b = joined_most f b n (λ p l. h p (omega arith)) in
+    let s : length (joined (listed f (n + 1))) ≡ length (joined (listed f n)) + length (f n) = length_joined_next f n in
     let t : length (f n) ≤ b = h n (omega arith) in
     let e : n + 1 ≡ suc n = add-one n in
     subst (λ (m : ℕ). length (joined (listed f m)) ≤ m * b) e (omega (arith, add-mul n 1 b))
@@ -56,6 +56,6 @@ pub seen_parts : (o : Outcome) (l : List (List ℕ)) (n : ℕ) (out lens out' le
     length (joined l) ≤ length out → length l ≤ length lens → parts out' (take n lens') ≡ l
 seen_parts o l n out lens out' lens' g e h k =
     let q : n ≡ length l = (let z : Written n ≡ answer_of (wrote l) = g.answer ∙ ap answer_of e in cc) in
-    let a : out' ≡ sets out 0 (joined l) = g.bytes ∙ ap (λ (p : Outcome). bytesAfter p out) e in
-    let b : lens' ≡ sets lens 0 (lengthsOf l) = g.lengths ∙ ap (λ (p : Outcome). lengthsAfter p lens) e in
-    ap₂ parts a (ap₂ take q b) ∙ seen-again l out lens h k
+    let a : out' ≡ sets out 0 (joined l) = g.bytes ∙ ap (λ (p : Outcome). bytes_after p out) e in
+    let b : lens' ≡ sets lens 0 (lengths_of l) = g.lengths ∙ ap (λ (p : Outcome). lengths_after p lens) e in
+    ap₂ parts a (ap₂ take q b) ∙ seen_again l out lens h k

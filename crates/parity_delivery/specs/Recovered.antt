@@ -6,7 +6,7 @@ use Rattle.wire.specs.LittleEndian.{AllBytes}
 use Rattle.session.specs.Decides.{All}
 use Rattle.session.specs.Calls.{Call}
 use Rattle.frames.specs.Lists.{parts}
-use Rattle.frames.specs.Outcomes.{Gives, writeOf}
+use Rattle.frames.specs.Outcomes.{Gives, write_of}
 use Rattle.frames.specs.declared.Answer.TheVariants.{Written}
 use Rattle.frames.specs.Reading.{read_of}
 
@@ -23,29 +23,29 @@ pub record Recovered (sent : List (List ℕ)) (d : List ℕ) : Type 0 where
   pub bytes : AllBytes datagrams
   pub theirs : All (λ (x : List ℕ). Memᴰ x sent) (parts datagrams lengths)
   pub out : List ℕ
-  pub outLengths : List ℕ
+  pub out_lengths : List ℕ
   pub count : ℕ
   pub out' : List ℕ
-  pub outLengths' : List ℕ
-  pub writes : Gives (writeOf group k mtu datagrams lengths (length out) (length outLengths)) out outLengths (Written count) out'
-      outLengths'
+  pub out_lengths' : List ℕ
+  pub writes : Gives (write_of group k mtu datagrams lengths (length out) (length out_lengths)) out out_lengths (Written count) out'
+      out_lengths'
   -- the reader is lent frames that it wrote
   pub frames : List ℕ
-  pub frameLengths : List ℕ
-  pub given : All (λ (f : List ℕ). Memᴰ f (parts out' (take count outLengths'))) (parts frames frameLengths)
+  pub frame_lengths : List ℕ
+  pub given : All (λ (f : List ℕ). Memᴰ f (parts out' (take count out_lengths'))) (parts frames frame_lengths)
   pub back : List ℕ
-  pub backLengths : List ℕ
-  pub backCount : ℕ
+  pub back_lengths : List ℕ
+  pub back_count : ℕ
   pub back' : List ℕ
-  pub backLengths' : List ℕ
-  pub reads : Gives (read_of k mtu frames frameLengths (length back) (length backLengths)) back backLengths (Written backCount) back'
-      backLengths'
-  pub among : Memᴰ d (parts back' (take backCount backLengths'))
+  pub back_lengths' : List ℕ
+  pub reads : Gives (read_of k mtu frames frame_lengths (length back) (length back_lengths)) back back_lengths (Written back_count) back'
+      back_lengths'
+  pub among : Memᴰ d (parts back' (take back_count back_lengths'))
 
 -- every datagram taken in is one that was sent, as it came or by way of the reader
 abbrev pub FedThrough : List (List ℕ) → List Call → Type 0
 FedThrough sent [] = Unit {0}
-FedThrough sent (Call.takeIn d ∷ xs) = (Memᴰ d sent ⊎ Recovered sent d) × FedThrough sent xs
+FedThrough sent (Call.take_in d ∷ xs) = (Memᴰ d sent ⊎ Recovered sent d) × FedThrough sent xs
 FedThrough sent (Call.send m ∷ xs) = FedThrough sent xs
 FedThrough sent (Call.flush t ∷ xs) = FedThrough sent xs
 FedThrough sent (Call.update t ∷ xs) = FedThrough sent xs

@@ -1,9 +1,9 @@
 // The data shards of a group, held or restored.
 ghost use Rattle.std.specs.Prelude.{◌≡◌, true, ◌<◌, length};
-ghost use Rattle.frames.specs.Lists.{lengthsOf, largest};
+ghost use Rattle.frames.specs.Lists.{lengths_of, largest};
 ghost use Rattle.frames.specs.Frames.{shard};
-ghost use Rattle.frames.specs.Outcomes.{lengthsOk};
-ghost use Rattle.parity_found.specs.Ready.{Ready, Whole, foundIn, lenIn, datagramIn};
+ghost use Rattle.frames.specs.Outcomes.{lengths_ok};
+ghost use Rattle.parity_found.specs.Ready.{Ready, Whole, found_in, len_in, datagram_in};
 
 use frames::lent;
 use parity_scan::Held;
@@ -46,7 +46,7 @@ fn found_shard<'a>(g: Group, s: &'a [u8], a: &'a [u8], b: &'a [u8], p: usize) ->
 // The len of the shard at place p.
 pub fn len_of<'a>(g: Group, s: &'a [u8], a: &'a [u8], b: &'a [u8], p: usize) -> usize
     requires { Ready g s.now a.now b.now × (p < g.k) }
-    ensures { (result ≡ lenIn g s.now p) × (result < 65536) }
+    ensures { (result ≡ len_in g s.now p) × (result < 65536) }
 {
     let t = found_shard(g, s, a, b, p);
     lent::wide(number::read_u16(t, 0))
@@ -54,8 +54,8 @@ pub fn len_of<'a>(g: Group, s: &'a [u8], a: &'a [u8], b: &'a [u8], p: usize) -> 
 
 // The shard at place p as its len says.
 pub fn trimmed<'a>(g: Group, s: &'a [u8], a: &'a [u8], b: &'a [u8], p: usize) -> &'a [u8]
-    requires { Ready g s.now a.now b.now × (p < g.k) × (lengthsOk g.mtu (lengthsOf (foundIn g s.now)) ≡ true) }
-    ensures { result.now ≡ shard (datagramIn g s.now p) }
+    requires { Ready g s.now a.now b.now × (p < g.k) × (lengths_ok g.mtu (lengths_of (found_in g s.now)) ≡ true) }
+    ensures { result.now ≡ shard (datagram_in g s.now p) }
 {
     let t = found_shard(g, s, a, b, p);
     let n = lent::wide(number::read_u16(t, 0));
@@ -65,7 +65,7 @@ pub fn trimmed<'a>(g: Group, s: &'a [u8], a: &'a [u8], b: &'a [u8], p: usize) ->
 // Each datagram found has 24 to mtu bytes.
 pub fn lens_ok<'a>(g: Group, s: &'a [u8], a: &'a [u8], b: &'a [u8]) -> bool
     requires { Ready g s.now a.now b.now }
-    ensures { result ≡ lengthsOk g.mtu (lengthsOf (foundIn g s.now)) }
+    ensures { result ≡ lengths_ok g.mtu (lengths_of (found_in g s.now)) }
 {
     let mut p = 0;
     while p < g.k {
@@ -86,7 +86,7 @@ pub fn lens_ok<'a>(g: Group, s: &'a [u8], a: &'a [u8], b: &'a [u8]) -> bool
 // The size of the largest datagram found.
 pub fn most_found<'a>(g: Group, s: &'a [u8], a: &'a [u8], b: &'a [u8]) -> usize
     requires { Ready g s.now a.now b.now }
-    ensures { (result ≡ largest (lengthsOf (foundIn g s.now))) × (result < 65536) }
+    ensures { (result ≡ largest (lengths_of (found_in g s.now))) × (result < 65536) }
 {
     let mut most = 0;
     let mut p = 0;

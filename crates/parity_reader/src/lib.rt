@@ -3,11 +3,11 @@ mod output;
 mod verify;
 
 ghost use Rattle.std.specs.Prelude.{◌≡◌, true, ◌&&◌, ◌+◌, ◌*◌, ◌≤◌, length};
-ghost use Rattle.frames.specs.Lists.{addUp, parts, lengthsOf, every};
-ghost use Rattle.frames.specs.Outcomes.{Gives, lengthsOk};
-ghost use Rattle.frames.specs.Reading.{frameOk, holds, readGroup, read_of};
+ghost use Rattle.frames.specs.Lists.{add_up, parts, lengths_of, every};
+ghost use Rattle.frames.specs.Outcomes.{Gives, lengths_ok};
+ghost use Rattle.frames.specs.Reading.{frame_ok, holds, read_group, read_of};
 ghost use Rattle.parity_scan.specs.Held.{Gathered};
-ghost use Rattle.parity_found.specs.Ready.{Ready, foundIn};
+ghost use Rattle.parity_found.specs.Ready.{Ready, found_in};
 
 use frames::{Answer, Frames, Refusal, lent};
 use parity_found::Group;
@@ -22,10 +22,10 @@ fn verified<'a>(
     b: &'a [u8],
     group: usize,
 ) -> bool
-    requires { Ready g s.now a.now b.now × (addUp lengths.now ≤ length s.now)
-        × (every (frameOk g.k g.mtu group) (parts s.now lengths.now) ≡ true) }
-    ensures { result ≡ (lengthsOk g.mtu (lengthsOf (foundIn g s.now))
-        && every (holds g.k (group * (g.k + 2)) (foundIn g s.now)) (parts s.now lengths.now)) }
+    requires { Ready g s.now a.now b.now × (add_up lengths.now ≤ length s.now)
+        × (every (frame_ok g.k g.mtu group) (parts s.now lengths.now) ≡ true) }
+    ensures { result ≡ (lengths_ok g.mtu (lengths_of (found_in g s.now))
+        && every (holds g.k (group * (g.k + 2)) (found_in g s.now)) (parts s.now lengths.now)) }
 {
     let sized = parity_found::lens_ok(g, s, a, b);
     if sized {
@@ -45,10 +45,10 @@ fn read_held(
     out: &mut [u8],
     out_lengths: &mut [u16],
 ) -> Answer
-    requires { (k ≤ 10) × (mtu ≤ 1400) × (addUp lengths.now ≤ length s.now)
-        × (every (frameOk k mtu group) (parts s.now lengths.now) ≡ true) × Gathered s.now lengths.now k h
+    requires { (k ≤ 10) × (mtu ≤ 1400) × (add_up lengths.now ≤ length s.now)
+        × (every (frame_ok k mtu group) (parts s.now lengths.now) ≡ true) × Gathered s.now lengths.now k h
         × (10 * mtu ≤ length out.old) × (10 ≤ length out_lengths.old) }
-    ensures { Gives (readGroup k mtu group (parts s.now lengths.now))
+    ensures { Gives (read_group k mtu group (parts s.now lengths.now))
         out.old out_lengths.old result out.new out_lengths.new }
 {
     if parity_scan::count_held(h, k + 2) < k {

@@ -1,19 +1,19 @@
 // The group of the datagrams found, compared with the frames given.
 ghost use Rattle.std.specs.Prelude.{◌≡◌, true, ◌+◌, ◌-◌, ◌*◌, ◌≤◌, ◌<◌, length, take, drop};
-ghost use Rattle.frames.specs.Lists.{addUp, parts, lengthsOf, largest, every};
-ghost use Rattle.frames.specs.Frames.{parityShard, shardAt};
-ghost use Rattle.frames.specs.Outcomes.{lengthsOk};
-ghost use Rattle.frames.specs.Reading.{frameOk, place_of, same, holds};
-ghost use Rattle.parity_found.specs.Ready.{Ready, foundIn};
+ghost use Rattle.frames.specs.Lists.{add_up, parts, lengths_of, largest, every};
+ghost use Rattle.frames.specs.Frames.{parity_shard, shard_at};
+ghost use Rattle.frames.specs.Outcomes.{lengths_ok};
+ghost use Rattle.frames.specs.Reading.{frame_ok, place_of, same, holds};
+ghost use Rattle.parity_found.specs.Ready.{Ready, found_in};
 
 use frames::{Frames, lent};
 use parity_found::Group;
 
 // Parity shard w of the datagrams found, in a row as long as their longest shard.
 fn parity_row<'a>(w: usize, g: Group, s: &'a [u8], a: &'a [u8], b: &'a [u8], row: &mut [u8])
-    requires { Ready g s.now a.now b.now × (lengthsOk g.mtu (lengthsOf (foundIn g s.now)) ≡ true)
-        × (length row.old ≡ largest (lengthsOf (foundIn g s.now)) + 2) }
-    ensures { row.new ≡ parityShard w (foundIn g s.now) }
+    requires { Ready g s.now a.now b.now × (lengths_ok g.mtu (lengths_of (found_in g s.now)) ≡ true)
+        × (length row.old ≡ largest (lengths_of (found_in g s.now)) + 2) }
+    ensures { row.new ≡ parity_shard w (found_in g s.now) }
 {
     rows::clear(row);
     let mut p = g.k;
@@ -52,9 +52,9 @@ fn data_same<'a>(
     n: usize,
     p: usize,
 ) -> bool
-    requires { Ready g s.now a.now b.now × (lengthsOk g.mtu (lengthsOf (foundIn g s.now)) ≡ true)
+    requires { Ready g s.now a.now b.now × (lengths_ok g.mtu (lengths_of (found_in g s.now)) ≡ true)
         × (at + n ≤ length s.now) × (p < g.k) × (0 < n) }
-    ensures { result ≡ same (take n (drop at s.now)) (shardAt (foundIn g s.now) p) }
+    ensures { result ≡ same (take n (drop at s.now)) (shard_at (found_in g s.now) p) }
 {
     let h = g.held;
     let held_at = h.at[p];
@@ -78,9 +78,9 @@ fn parity_same<'a>(
     n: usize,
     p: usize,
 ) -> bool
-    requires { Ready g s.now a.now b.now × (lengthsOk g.mtu (lengthsOf (foundIn g s.now)) ≡ true)
-        × (at + n ≤ length s.now) × (g.k ≤ p) × (most ≡ largest (lengthsOf (foundIn g s.now))) }
-    ensures { result ≡ same (take n (drop at s.now)) (shardAt (foundIn g s.now) p) }
+    requires { Ready g s.now a.now b.now × (lengths_ok g.mtu (lengths_of (found_in g s.now)) ≡ true)
+        × (at + n ≤ length s.now) × (g.k ≤ p) × (most ≡ largest (lengths_of (found_in g s.now))) }
+    ensures { result ≡ same (take n (drop at s.now)) (shard_at (found_in g s.now) p) }
 {
     let mut row = parity_found::blank();
     let size = most + 2;
@@ -98,10 +98,10 @@ fn shard_same<'a>(
     at: usize,
     n: usize,
 ) -> bool
-    requires { Ready g s.now a.now b.now × (lengthsOk g.mtu (lengthsOf (foundIn g s.now)) ≡ true)
-        × (at + n ≤ length s.now) × (32 ≤ n) × (most ≡ largest (lengthsOf (foundIn g s.now))) }
+    requires { Ready g s.now a.now b.now × (lengths_ok g.mtu (lengths_of (found_in g s.now)) ≡ true)
+        × (at + n ≤ length s.now) × (32 ≤ n) × (most ≡ largest (lengths_of (found_in g s.now))) }
     ensures { result ≡ same (take (n - 6) (drop (at + 6) s.now))
-        (shardAt (foundIn g s.now) (place_of g.k (take n (drop at s.now)))) }
+        (shard_at (found_in g s.now) (place_of g.k (take n (drop at s.now)))) }
 {
     let p = parity_scan::place_at(s, at, n, g.k);
     if p < g.k {
@@ -119,9 +119,9 @@ pub fn all_held<'a>(
     b: &'a [u8],
     group: usize,
 ) -> bool
-    requires { Ready g s.now a.now b.now × (lengthsOk g.mtu (lengthsOf (foundIn g s.now)) ≡ true)
-        × (addUp lengths.now ≤ length s.now) × (every (frameOk g.k g.mtu group) (parts s.now lengths.now) ≡ true) }
-    ensures { result ≡ every (holds g.k (group * (g.k + 2)) (foundIn g s.now))
+    requires { Ready g s.now a.now b.now × (lengths_ok g.mtu (lengths_of (found_in g s.now)) ≡ true)
+        × (add_up lengths.now ≤ length s.now) × (every (frame_ok g.k g.mtu group) (parts s.now lengths.now) ≡ true) }
+    ensures { result ≡ every (holds g.k (group * (g.k + 2)) (found_in g s.now))
         (parts s.now lengths.now) }
 {
     let most = parity_found::most_found(g, s, a, b);

@@ -6,113 +6,113 @@ use Rattle.std.proofs.Math.Path.{ap, ap₂}
 use Rattle.wire.specs.LittleEndian.{AllBytes}
 use Rattle.galois.specs.Field.{plus, mul, power, inverse}
 use Rattle.galois.specs.FieldLaws.{
-  plus-zero,
-  zero-plus,
-  plus-self,
+  plus_zero,
+  zero_plus,
+  plus_self,
   plus_comm,
   plus_assoc,
-  plus-twice,
-  plus-lt,
-  mul-lt,
-  mul-plus,
-  mul-plus-left,
-  power-lt,
+  plus_twice,
+  plus_lt,
+  mul_lt,
+  mul_plus,
+  mul_plus_left,
+  power_lt,
 }
-use Rattle.galois.specs.TableLaws.{power-differs, undo-mul}
+use Rattle.galois.specs.TableLaws.{power_differs, undo_mul}
 use Rattle.rows.specs.Rows.{Row, behind, stepped}
 use Rattle.frames.specs.Lists.{total, other}
 use Rattle.frames.specs.Frames.{weight}
 use Rattle.frames.specs.Reading.{has, rest, solved}
 use Rattle.frames.specs.PartLaws.{part_bytes}
-use Rattle.frames.specs.PlaceLaws.{other-some}
-use Rattle.frames.specs.WeightLaws.{tail, added-from-0, steps-none, steps_next, steps-done}
+use Rattle.frames.specs.PlaceLaws.{other_some}
+use Rattle.frames.specs.WeightLaws.{tail, added_from_0, steps_none, steps_next, steps_done}
 use Rattle.parity_scan.specs.declared.Held.{Held}
-use Rattle.parity_scan.specs.Held.{shardIn, sized, Inside}
-use Rattle.parity_scan.specs.HeldLaws.{has-sized, sized-true, sized-false}
+use Rattle.parity_scan.specs.Held.{shard_in, sized, Inside}
+use Rattle.parity_scan.specs.HeldLaws.{has_sized, sized_true, sized_false}
 
 -- ---- the rest of a parity, from the last place to the first
 
 -- byte x of the shard held at place q
-abbrev pub heldByte : List ℕ → Held → ℕ → ℕ → ℕ
-heldByte s h x q = get_or (shardIn s h q) x 0
+abbrev pub held_byte : List ℕ → Held → ℕ → ℕ → ℕ
+held_byte s h x q = get_or (shard_in s h q) x 0
 
 -- a row of another name of its length, or of the other place
 pub row_sized : (f : ℕ → ℕ) (m n : ℕ) (row : List ℕ) → m ≡ n → Row f m row → Row f n row
 row_sized f m n row e r = record { size = r.size ∙ e; byte = λ x l. r.byte x (rw e l) }
 
-pub row-only : (k : ℕ) (shards : ℕ → List ℕ) (i j n : ℕ) (row : List ℕ) → j ≡ 12 → Row (solved k shards i 12) n row
+pub row_only : (k : ℕ) (shards : ℕ → List ℕ) (i j n : ℕ) (row : List ℕ) → j ≡ 12 → Row (solved k shards i 12) n row
     → Row (solved k shards i j) n row
-row-only k shards i j n row e r = record { size = r.size; byte = λ x l. r.byte x l ∙ ap (λ (q : ℕ). solved k shards i q x) (sym e) }
+row_only k shards i j n row e r = record { size = r.size; byte = λ x l. r.byte x l ∙ ap (λ (q : ℕ). solved k shards i q x) (sym e) }
 
 module _ (w : ℕ) (s : List ℕ) (h : Held) (bytes : AllBytes s) where
-  small : (x q : ℕ) → heldByte s h x q < 256
-  unfolding shardIn
+  small : (x q : ℕ) → held_byte s h x q < 256
+  unfolding shard_in
   small x q = part_bytes s (get_or h.at q 0) (get_or h.size q 0) bytes x
 
-  pub rest-none : (k n : ℕ) (row : List ℕ) → Row (λ x. 0) n row → Row (λ x. tail w (heldByte s h x) k k) (length row) row
-  rest-none k n row r = steps-none w (heldByte s h) small k n (length row) row (sym r.size) r
+  pub rest_none : (k n : ℕ) (row : List ℕ) → Row (λ x. 0) n row → Row (λ x. tail w (held_byte s h x) k k) (length row) row
+  rest_none k n row r = steps_none w (held_byte s h) small k n (length row) row (sym r.size) r
 
-  pub rest-next :
+  pub rest_next :
       (k p q n : ℕ) (row row₁ row₂ : List ℕ) →
       p ≡ q + 1 →
       q < k →
-      Row (λ x. tail w (heldByte s h x) p k) n row →
+      Row (λ x. tail w (held_byte s h x) p k) n row →
       Row (λ x. stepped w (get_or row x 0)) (length row) row₁ →
-      Row (λ x. plus (get_or row₁ x 0) (heldByte s h x q)) (length row₁) row₂ →
-      Row (λ x. tail w (heldByte s h x) q k) n row₂
-  rest-next = steps_next w (heldByte s h) small
+      Row (λ x. plus (get_or row₁ x 0) (held_byte s h x q)) (length row₁) row₂ →
+      Row (λ x. tail w (held_byte s h x) q k) n row₂
+  rest_next = steps_next w (held_byte s h) small
 
-  pub rest-done :
+  pub rest_done :
       (k p m n : ℕ) (row row₁ : List ℕ) →
       p ≤ 0 →
       m ≡ n →
-      Row (λ x. tail w (heldByte s h x) p k) m row →
-      Row (λ x. plus (get_or row x 0) (heldByte s h x (k + w))) (length row) row₁ →
-      Row (rest w k (shardIn s h)) n row₁
+      Row (λ x. tail w (held_byte s h x) p k) m row →
+      Row (λ x. plus (get_or row x 0) (held_byte s h x (k + w))) (length row) row₁ →
+      Row (rest w k (shard_in s h)) n row₁
   unfolding rest
-  rest-done k p m n row row₁ l e r r₁ =
-      let d = steps-done w (heldByte s h) small k p m n row l e r in
+  rest_done k p m n row row₁ l e r r₁ =
+      let d = steps_done w (held_byte s h) small k p m n row l e r in
       record {
         size = r₁.size ∙ d.size;
         byte = λ x i.
             r₁.byte x (omega (arith, d.size))
-            ∙ plus_comm (get_or row x 0) (heldByte s h x (k + w))
-            ∙ ap (plus (heldByte s h x (k + w))) (d.byte x i);
+            ∙ plus_comm (get_or row x 0) (held_byte s h x (k + w))
+            ∙ ap (plus (held_byte s h x (k + w))) (d.byte x i);
       }
 
 -- ---- the other place that is lost
 
-pub other-passed : (h : ℕ → Bool) (i p : ℕ) → (h p || eqb p i) ≡ true → other h i (p + 1) ≡ other h i p
+pub other_passed : (h : ℕ → Bool) (i p : ℕ) → (h p || eqb p i) ≡ true → other h i (p + 1) ≡ other h i p
 unfolding other
-other-passed h i p e = rw (add-one, e)
+other_passed h i p e = rw (add-one, e)
 
-pub other-found : (h : ℕ → Bool) (i p : ℕ) → (h p || eqb p i) ≡ false → other h i (p + 1) ≡ p
+pub other_found : (h : ℕ → Bool) (i p : ℕ) → (h p || eqb p i) ≡ false → other h i (p + 1) ≡ p
 unfolding other
-other-found h i p e = rw (add-one, e)
+other_found h i p e = rw (add-one, e)
 
 -- ---- one lost
 
 module _ (s : List ℕ) (h : Held) (inside : Inside s h) where
-  pub solved-first : (k i size n : ℕ) (row : List ℕ) → size ≡ get_or h.size k 0 → 0 < size → Row (rest 0 k (shardIn s h)) n row →
-      Row (solved k (shardIn s h) i 12) n row
+  pub solved_first : (k i size n : ℕ) (row : List ℕ) → size ≡ get_or h.size k 0 → 0 < size → Row (rest 0 k (shard_in s h)) n row →
+      Row (solved k (shard_in s h) i 12) n row
   unfolding solved
-  solved-first k i size n row e l r = record { size = r.size; byte = λ x m. rw (sized-true s h inside k size e l) (r.byte x m) }
+  solved_first k i size n row e l r = record { size = r.size; byte = λ x m. rw (sized_true s h inside k size e l) (r.byte x m) }
 
-  pub solved-second :
+  pub solved_second :
       (k i size n c d : ℕ) (row row₁ : List ℕ) →
       size ≡ get_or h.size k 0 →
       size ≤ 0 →
       c ≡ power i →
       d ≡ inverse c →
-      Row (rest 1 k (shardIn s h)) n row →
+      Row (rest 1 k (shard_in s h)) n row →
       Row (λ x. mul d (get_or row x 0)) (length row) row₁ →
-      Row (solved k (shardIn s h) i 12) n row₁
+      Row (solved k (shard_in s h) i 12) n row₁
   unfolding solved
-  solved-second k i size n c d row row₁ e l ec ed r r₁ =
+  solved_second k i size n c d row row₁ e l ec ed r r₁ =
       record {
         size = r₁.size ∙ r.size;
         byte = λ x m.
-            rw (sized-false s h inside k size e l)
+            rw (sized_false s h inside k size e l)
             (r₁.byte x (omega (arith, r.size)) ∙ ap₂ mul (ed ∙ ap inverse ec) (r.byte x m));
       }
 
@@ -120,10 +120,10 @@ module _ (s : List ℕ) (h : Held) (inside : Inside s h) where
 
 -- weights of two places differ
 apart : (i j : ℕ) → i < 10 → j < 10 → (i ≡ j → ⊥) → 0 < plus (power i) (power j)
-apart i j li lj d = positive (plus (power i) (power j)) (λ e. d (power-differs i j (omega arith) (omega arith) (equal e)))
+apart i j li lj d = positive (plus (power i) (power j)) (λ e. d (power_differs i j (omega arith) (omega arith) (equal e)))
   where
     equal : plus (power i) (power j) ≡ 0 → power i ≡ power j
-    equal e = sym (plus-zero (power i)) ∙ ap (plus (power i)) (sym e) ∙ plus-twice (power i) (power j)
+    equal e = sym (plus_zero (power i)) ∙ ap (plus (power i)) (sym e) ∙ plus_twice (power i) (power j)
 
     positive : (n : ℕ) → (n ≡ 0 → ⊥) → 0 < n
     positive zero d = absurd (d refl)
@@ -133,17 +133,17 @@ apart i j li lj d = positive (plus (power i) (power j)) (λ e. d (power-differs 
 turned : (f g p q : ℕ) → f < 256 → g < 256 → p < 256 → q < 256 → 0 < plus f g →
     plus p (mul (inverse (plus f g)) (plus q (mul g p))) ≡ mul (inverse (plus g f)) (plus q (mul f p))
 turned f g p q hf hg hp hq pos =
-    ap (λ (y : ℕ). plus y (mul (inverse (plus f g)) (plus q (mul g p)))) (sym (undo-mul (plus f g) p pos (plus-lt f g hf hg) hp))
-    ∙ sym (mul-plus (inverse (plus f g)) (mul (plus f g) p) (plus q (mul g p)) (mul-lt (plus f g) p hp)
-    (plus-lt q (mul g p) hq (mul-lt g p hp)))
+    ap (λ (y : ℕ). plus y (mul (inverse (plus f g)) (plus q (mul g p)))) (sym (undo_mul (plus f g) p pos (plus_lt f g hf hg) hp))
+    ∙ sym (mul_plus (inverse (plus f g)) (mul (plus f g) p) (plus q (mul g p)) (mul_lt (plus f g) p hp)
+    (plus_lt q (mul g p) hq (mul_lt g p hp)))
     ∙ ap₂ (λ (u v : ℕ). mul (inverse u) v) (plus_comm f g) inner
   where
     inner : plus (mul (plus f g) p) (plus q (mul g p)) ≡ plus q (mul f p)
     inner =
-        ap (λ (y : ℕ). plus y (plus q (mul g p))) (mul-plus-left f g p)
+        ap (λ (y : ℕ). plus y (plus q (mul g p))) (mul_plus_left f g p)
         ∙ ap (plus (plus (mul f p) (mul g p))) (plus_comm q (mul g p))
         ∙ plus_assoc (mul f p) (mul g p) (plus (mul g p) q)
-        ∙ ap (plus (mul f p)) (plus-twice (mul g p) q)
+        ∙ ap (plus (mul f p)) (plus_twice (mul g p) q)
         ∙ plus_comm (mul f p) q
 
 module _ (k : ℕ) (shards : ℕ → List ℕ) (i j n f g u d : ℕ) (li : i < 10) (lj : j < 10) (differ : i ≡ j → ⊥)
@@ -172,7 +172,7 @@ module _ (k : ℕ) (shards : ℕ → List ℕ) (i j n f g u d : ℕ) (li : i < 1
             (r₁.byte x (omega (arith, ra.size)) ∙ ap₂ plus (ra.byte x m) (ap₂ mul eg (rb.byte x m))));
       }
 
-  pub both-second :
+  pub both_second :
       (a b b₁ : List ℕ) →
       ((w x : ℕ) → rest w k shards x < 256) →
       Row (rest 0 k shards) n b →
@@ -180,33 +180,33 @@ module _ (k : ℕ) (shards : ℕ → List ℕ) (i j n f g u d : ℕ) (li : i < 1
       Row (λ x. plus (get_or b x 0) (behind 0 a x)) (length b) b₁ →
       Row (solved k shards j i) n b₁
   unfolding solved
-  both-second a b b₁ small rb ra sum =
-      let r₁ = added-from-0 b a b₁ sum in
+  both_second a b b₁ small rb ra sum =
+      let r₁ = added_from_0 b a b₁ sum in
       record {
         size = r₁.size ∙ rb.size;
         byte = λ x m.
             rw near
             (r₁.byte x (omega (arith, rb.size)) ∙ ap₂ plus (rb.byte x m) (ra.byte x m ∙ rw far refl)
-            ∙ turned (power i) (power j) (rest 0 k shards x) (rest 1 k shards x) (power-lt i) (power-lt j) (small 0 x) (small 1 x)
+            ∙ turned (power i) (power j) (rest 0 k shards x) (rest 1 k shards x) (power_lt i) (power_lt j) (small 0 x) (small 1 x)
             (apart i j li lj differ));
       }
 
 -- the rest of a parity is a byte
-pub rest-small : (k : ℕ) (s : List ℕ) (h : Held) → AllBytes s → (w x : ℕ) → rest w k (shardIn s h) x < 256
+pub rest_small : (k : ℕ) (s : List ℕ) (h : Held) → AllBytes s → (w x : ℕ) → rest w k (shard_in s h) x < 256
 unfolding rest total
-rest-small k s h bytes w x =
-    plus-lt (heldByte s h x (k + w)) (total (λ p. mul (weight w p) (heldByte s h x p)) k) (small w s h bytes x (k + w)) (sum k)
+rest_small k s h bytes w x =
+    plus_lt (held_byte s h x (k + w)) (total (λ p. mul (weight w p) (held_byte s h x p)) k) (small w s h bytes x (k + w)) (sum k)
   where
-    sum : (m : ℕ) → total (λ p. mul (weight w p) (heldByte s h x p)) m < 256
+    sum : (m : ℕ) → total (λ p. mul (weight w p) (held_byte s h x p)) m < 256
     sum zero = omega arith
-    sum (suc m) = plus-lt (total (λ p. mul (weight w p) (heldByte s h x p)) m) (mul (weight w m) (heldByte s h x m)) (sum m)
-        (mul-lt (weight w m) (heldByte s h x m) (small w s h bytes x m))
+    sum (suc m) = plus_lt (total (λ p. mul (weight w p) (held_byte s h x p)) m) (mul (weight w m) (held_byte s h x m)) (sum m)
+        (mul_lt (weight w m) (held_byte s h x m) (small w s h bytes x m))
 
 -- ---- which places are lost
 
 -- a place that the search finds is below 10
-pub other-lt : (h : ℕ → Bool) (i k : ℕ) → k ≤ 10 → (other h i k ≡ 12 → ⊥) → other h i k < 10
-other-lt h i k l d = omega (arith, (other-some h i k d).below)
+pub other_lt : (h : ℕ → Bool) (i k : ℕ) → k ≤ 10 → (other h i k ≡ 12 → ⊥) → other h i k < 10
+other_lt h i k l d = omega (arith, (other_some h i k d).below)
 
-pub other-apart : (h : ℕ → Bool) (i k : ℕ) → (other h i k ≡ 12 → ⊥) → other h i k ≡ i → ⊥
-other-apart h i k d = (other-some h i k d).apart
+pub other_apart : (h : ℕ → Bool) (i k : ℕ) → (other h i k ≡ 12 → ⊥) → other h i k ≡ i → ⊥
+other_apart h i k d = (other_some h i k d).apart

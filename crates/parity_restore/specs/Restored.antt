@@ -12,9 +12,9 @@ pub record Within (h : Held) (n : ℕ) : Type 0 where
 
 -- rows a and b of n bytes: the shards found for places i and j, where these are lost
 pub record Restored (k : ℕ) (shards : ℕ → List ℕ) (i j n : ℕ) (a b : List ℕ) : Type 0 where
-  pub sizeA : length a ≡ n
-  pub sizeB : length b ≡ n
-  pub bytesA : AllBytes a
-  pub bytesB : AllBytes b
+  pub size_a : length a ≡ n
+  pub size_b : length b ≡ n
+  pub bytes_a : AllBytes a
+  pub bytes_b : AllBytes b
   pub first : (i ≡ 12 → ⊥) → Row (solved k shards i j) n a
   pub second : (i ≡ 12 → ⊥) → (j ≡ 12 → ⊥) → Row (solved k shards j i) n b

@@ -4,7 +4,7 @@ ghost use Rattle.galois.specs.Field.{plus};
 ghost use Rattle.rows.specs.Rows.{Row};
 ghost use Rattle.frames.specs.Lists.{other};
 ghost use Rattle.frames.specs.Reading.{rest, solved};
-ghost use Rattle.parity_scan.specs.Held.{shardIn, sized, Inside};
+ghost use Rattle.parity_scan.specs.Held.{shard_in, sized, Inside};
 ghost use Rattle.parity_restore.specs.Restored.{Within, Restored};
 
 use parity_scan::Held;
@@ -12,7 +12,7 @@ use parity_scan::Held;
 // The shard that is held for place p is added to the row.
 fn add_held(row: &mut [u8], s: &[u8], h: Held, p: usize)
     requires { (p < 12) × Inside s.now h × Within h (length row.old) }
-    ensures { Row (λ x. plus (get_or row.old x 0) (get_or (shardIn s.now h p) x 0))
+    ensures { Row (λ x. plus (get_or row.old x 0) (get_or (shard_in s.now h p) x 0))
         (length row.old) row.new }
 {
     let a = h.at[p];
@@ -23,7 +23,7 @@ fn add_held(row: &mut [u8], s: &[u8], h: Held, p: usize)
 // Parity w less the data shards that are held: the weighed sum of what is lost.
 fn rest_row(w: usize, k: usize, s: &[u8], h: Held, row: &mut [u8])
     requires { (w < 2) × (k ≤ 10) × Inside s.now h × Within h (length row.old) }
-    ensures { Row (rest w k (shardIn s.now h)) (length row.old) row.new }
+    ensures { Row (rest w k (shard_in s.now h)) (length row.old) row.new }
 {
     rows::clear(row);
     let mut p = k;
@@ -58,7 +58,7 @@ pub fn other_lost(h: Held, i: usize, k: usize) -> usize
 // The shard at place i, the only one that is lost: by the first parity where it is held, else by the second.
 fn solve_one(k: usize, s: &[u8], h: Held, i: usize, row: &mut [u8])
     requires { (k ≤ 10) × Inside s.now h × Within h (length row.old) }
-    ensures { Row (solved k (shardIn s.now h) i 12) (length row.old) row.new }
+    ensures { Row (solved k (shard_in s.now h) i 12) (length row.old) row.new }
 {
     let n = h.size[k];
     if 0 < n {
@@ -73,8 +73,8 @@ fn solve_one(k: usize, s: &[u8], h: Held, i: usize, row: &mut [u8])
 fn solve_two(k: usize, s: &[u8], h: Held, i: usize, j: usize, a: &mut [u8], b: &mut [u8])
     requires { (k ≤ 10) × Inside s.now h × Within h (length a.old) × (length b.old ≡ length a.old)
         × (i < 10) × (j < 10) × (i ≡ j → ⊥) }
-    ensures first { Row (solved k (shardIn s.now h) i j) (length a.old) a.new }
-    ensures second { Row (solved k (shardIn s.now h) j i) (length a.old) b.new }
+    ensures first { Row (solved k (shard_in s.now h) i j) (length a.old) a.new }
+    ensures second { Row (solved k (shard_in s.now h) j i) (length a.old) b.new }
 {
     let g = galois::power(j);
     let d = galois::inverse(galois::add(galois::power(i), g));
@@ -89,7 +89,7 @@ fn solve_two(k: usize, s: &[u8], h: Held, i: usize, j: usize, a: &mut [u8], b: &
 pub fn restore(k: usize, s: &[u8], h: Held, i: usize, j: usize, a: &mut [u8], b: &mut [u8])
     requires { (k ≤ 10) × Inside s.now h × Within h (length a.old) × (length b.old ≡ length a.old)
         × (i ≡ other (sized h) 12 k) × (j ≡ other (sized h) i k) }
-    ensures { Restored k (shardIn s.now h) i j (length a.old) a.new b.new }
+    ensures { Restored k (shard_in s.now h) i j (length a.old) a.new b.new }
 {
     if i == 12 {
         return;

@@ -3,13 +3,13 @@
 -- Assumes nothing.
 use Rattle.std.specs.Prelude.{◌≡◌, Bool, true, false, cond, List, ℕ, ◌+◌, ◌≤◌, ◌<◌, ltb, length, get_or, take, drop, set}
 use Rattle.frames.specs.Lists.{parts, every}
-use Rattle.frames.specs.Reading.{frameOk, heldShard}
+use Rattle.frames.specs.Reading.{frame_ok, held_shard}
 use Rattle.parity_scan.specs.declared.Held.{Held}
 use Rattle.parity_scan.specs.declared.Scanned.{Scanned}
 
 -- the shard that is held for place p
-unfoldable pub shardIn : List ℕ → Held → ℕ → List ℕ
-shardIn s h p = take (get_or h.size p 0) (drop (get_or h.at p 0) s)
+unfoldable pub shard_in : List ℕ → Held → ℕ → List ℕ
+shard_in s h p = take (get_or h.size p 0) (drop (get_or h.at p 0) s)
 
 -- whether there is one
 unfoldable pub sized : Held → ℕ → Bool
@@ -31,10 +31,10 @@ pub record Empty (h : Held) : Type 0 where
 -- what is held is what the frames give
 pub record Gathered (s ns : List ℕ) (k : ℕ) (h : Held) : Type 0 where
   pub inside : Inside s h
-  pub shards : (p : ℕ) → shardIn s h p ≡ heldShard k (parts s ns) p
+  pub shards : (p : ℕ) → shard_in s h p ≡ held_shard k (parts s ns) p
 
 -- a scan of frames that are all to be of group n
 pub record Scans (s ns : List ℕ) (k mtu n : ℕ) (r : Scanned) : Type 0 where
-  pub right : r.ok ≡ every (frameOk k mtu n) (parts s ns)
+  pub right : r.ok ≡ every (frame_ok k mtu n) (parts s ns)
   pub group : r.ok ≡ true → r.group ≡ n
   pub held : r.ok ≡ true → Gathered s ns k r.held

@@ -10,152 +10,152 @@ use Rattle.std.proofs.lemmas.List.{length-replicate}
 use Rattle.std.proofs.lemmas.List.Edits.{sets}
 use Rattle.std.proofs.Math.Seq.{length-sets, get_or-take, get_or-drop, get_or-append_seam, take-nil}
 use Rattle.wire.specs.LittleEndian.{bytes_of, number_at, AllBytes}
-use Rattle.wire.specs.LittleEndianLaws.{length-bytesOf}
-use Rattle.wire.specs.Stores.{sets-append}
+use Rattle.wire.specs.LittleEndianLaws.{length_bytes_of}
+use Rattle.wire.specs.Stores.{sets_append}
 use Rattle.galois.specs.Field.{plus, double, mul, power, inverse}
 use Rattle.galois.specs.FieldLaws.{
-  plus-zero,
-  zero-plus,
-  plus-self,
-  plus-swap,
+  plus_zero,
+  zero_plus,
+  plus_self,
+  plus_swap,
   plus_comm,
   plus_assoc,
-  plus-twice,
-  plus-lt,
-  mul-lt,
-  mul-zero,
+  plus_twice,
+  plus_lt,
+  mul_lt,
+  mul_zero,
   one-mul,
-  mul-plus,
-  mul-plus-left,
-  power-lt,
+  mul_plus,
+  mul_plus_left,
+  power_lt,
 }
-use Rattle.galois.specs.TableLaws.{power-positive, power-differs, undo-mul}
+use Rattle.galois.specs.TableLaws.{power_positive, power_differs, undo_mul}
 use Rattle.frames.specs.declared.Refusal.{Refusal}
 use Rattle.frames.specs.declared.Refusal.TheVariants.{ShortPart, SettingOutOfRange, NotAGroup, TooFewFrames, LateGroup}
 use Rattle.frames.specs.declared.Answer.{Answer}
 use Rattle.frames.specs.declared.Answer.TheVariants.{Written, Refused}
-use Rattle.frames.specs.Lists.{listed, joined, lengthsOf, parts, addUp, largest, total, count, other, every, among, different}
-use Rattle.frames.specs.Frames.{shard, longest, weight, parityByte, parityShard, type_at, shardAt, frame, frame_at, group}
+use Rattle.frames.specs.Lists.{listed, joined, lengths_of, parts, add_up, largest, total, count, other, every, among, different}
+use Rattle.frames.specs.Frames.{shard, longest, weight, parity_byte, parity_shard, type_at, shard_at, frame, frame_at, group}
 use Rattle.frames.specs.Outcomes.{
   Outcome,
   refused,
   wrote,
   answer_of,
-  bytesAfter,
-  lengthsAfter,
+  bytes_after,
+  lengths_after,
   Gives,
-  settingsOk,
-  lentOk,
-  lengthOk,
-  lengthsOk,
-  groupsEnd,
-  writeOf,
+  settings_ok,
+  lent_ok,
+  length_ok,
+  lengths_ok,
+  groups_end,
+  write_of,
 }
 use Rattle.frames.specs.Reading.{
-  sequenceOf,
+  sequence_of,
   group_of,
   place_of,
-  frameOk,
-  firstGroup,
-  heldShard,
+  frame_ok,
+  first_group,
+  held_shard,
   has,
   rest,
   solved,
   byte_at,
   len_at,
-  datagramAt,
+  datagram_at,
   found,
   same,
   holds,
-  readGroup,
-  readFrames,
+  read_group,
+  read_frames,
   read_of,
 }
 use Rattle.frames.specs.PlaceLaws.{
-  length-listed,
-  getD-listed,
+  length_listed,
+  get_d_listed,
   listed_same,
   listed_next,
-  listed-getD,
-  listed-bytes,
-  total-same,
-  total-plus,
-  total-none,
-  total-one,
-  total-two,
-  total-next,
+  listed_get_d,
+  listed_bytes,
+  total_same,
+  total_plus,
+  total_none,
+  total_one,
+  total_two,
+  total_next,
   count_none,
-  count-three,
+  count_three,
   other_none,
-  other-some,
+  other_some,
   Lost,
 }
 use Rattle.frames.specs.PartLaws.{
   packed_step,
-  packed-short,
-  packed-end,
-  lengths-step,
-  lengths-bad,
-  lengths-end,
+  packed_short,
+  packed_end,
+  lengths_step,
+  lengths_bad,
+  lengths_end,
   largest_step,
-  largest-end,
-  length-parts,
+  largest_end,
+  length_parts,
   part_at,
-  add-up-next,
-  add-up-le,
+  add_up_next,
+  add_up_le,
   length_part,
-  joined-append,
-  joined-next,
-  length-lengths,
-  lengths-next,
+  joined_append,
+  joined_next,
+  length_lengths,
+  lengths_next,
   stored,
-  lengths-parts,
-  getD-largest,
-  length-joined-next,
-  largest-le,
-  largest-ge,
-  size-le,
+  lengths_parts,
+  get_d_largest,
+  length_joined_next,
+  largest_le,
+  largest_ge,
+  size_le,
 }
 use Rattle.frames.specs.FrameLaws.{
-  length-shard,
-  parity-at,
-  shardAt-data,
-  shardAt-parity,
-  seq-of,
-  type-of,
+  length_shard,
+  parity_at,
+  shard_at_data,
+  shard_at_parity,
+  seq_of,
+  type_of,
   len_of,
-  shard-of,
-  length-frame,
-  len-shard,
+  shard_of,
+  length_frame,
+  len_shard,
   two_bytes,
   behind,
-  shard-bytes,
-  shard-low,
-  shard-high,
-  shard-byte,
-  type-lt,
-  length-parityShard,
-  length-frameAt,
-  drop-frameAt,
-  type-at,
-  len-at,
+  shard_bytes,
+  shard_low,
+  shard_high,
+  shard_byte_lem,
+  type_lt,
+  length_parity_shard,
+  length_frame_at,
+  drop_frame_at,
+  type_at_lem,
+  len_at_lem,
 }
-use Rattle.frames.specs.OutcomeLaws.{and_left, and_right, refusing, writing, add-up-most, same_self, lengths-at}
+use Rattle.frames.specs.OutcomeLaws.{and_left, and_right, refusing, writing, add_up_most, same_self, lengths_at}
 use Rattle.parity_scan.specs.declared.Held.{Held}
 use Rattle.parity_scan.specs.declared.Scanned.{Scanned}
-use Rattle.parity_scan.specs.Held.{shardIn, sized, Inside, noted, Empty, Gathered, Scans}
+use Rattle.parity_scan.specs.Held.{shard_in, sized, Inside, noted, Empty, Gathered, Scans}
 
-pub other-passed : (h : ℕ → Bool) (i p : ℕ) → (h p || eqb p i) ≡ true → other h i (p + 1) ≡ other h i p
+pub other_passed : (h : ℕ → Bool) (i p : ℕ) → (h p || eqb p i) ≡ true → other h i (p + 1) ≡ other h i p
 unfolding other
-other-passed h i p e = rw (add-one, e)
+other_passed h i p e = rw (add-one, e)
 
-pub other-found : (h : ℕ → Bool) (i p : ℕ) → (h p || eqb p i) ≡ false → other h i (p + 1) ≡ p
+pub other_found : (h : ℕ → Bool) (i p : ℕ) → (h p || eqb p i) ≡ false → other h i (p + 1) ≡ p
 unfolding other
-other-found h i p e = rw (add-one, e)
+other_found h i p e = rw (add-one, e)
 
-pub count-more : (h : ℕ → Bool) (p : ℕ) → h p ≡ true → count h (p + 1) ≡ count h p + 1
+pub count_more : (h : ℕ → Bool) (p : ℕ) → h p ≡ true → count h (p + 1) ≡ count h p + 1
 unfolding count
-count-more h p e = rw (add-one, e) (omega arith)
+count_more h p e = rw (add-one, e) (omega arith)
 
 pub count_same : (h : ℕ → Bool) (p : ℕ) → h p ≡ false → count h (p + 1) ≡ count h p
 unfolding count
@@ -164,25 +164,25 @@ count_same h p e = rw (add-one, e)
 -- ---- what is held
 
 module _ (s : List ℕ) (h : Held) (inside' : Inside s h) where
-  pub length-shardIn : (p : ℕ) → length (shardIn s h p) ≡ get_or h.size p 0
-  unfolding shardIn
-  length-shardIn p = let i : get_or h.at p 0 + get_or h.size p 0 ≤ length s = inside'.inside p in
+  pub length_shard_in : (p : ℕ) → length (shard_in s h p) ≡ get_or h.size p 0
+  unfolding shard_in
+  length_shard_in p = let i : get_or h.at p 0 + get_or h.size p 0 ≤ length s = inside'.inside p in
       simp (length-take, length-drop) (omega arith)
 
-  pub has-sized : has (shardIn s h) ≡ sized h
+  pub has_sized : has (shard_in s h) ≡ sized h
   unfolding sized
-  has-sized i p = ltb 0 (length-shardIn p i)
+  has_sized i p = ltb 0 (length_shard_in p i)
 
-  pub byte-in : (p x : ℕ) → x < get_or h.size p 0 → get_or (shardIn s h p) x 0 ≡ get_or s (get_or h.at p 0 + x) 0
-  unfolding shardIn
-  byte-in p x l = get_or-take (get_or h.size p 0) (drop (get_or h.at p 0) s) x 0 l ∙ get_or-drop (get_or h.at p 0) s x 0
+  pub byte_in_lem : (p x : ℕ) → x < get_or h.size p 0 → get_or (shard_in s h p) x 0 ≡ get_or s (get_or h.at p 0 + x) 0
+  unfolding shard_in
+  byte_in_lem p x l = get_or-take (get_or h.size p 0) (drop (get_or h.at p 0) s) x 0 l ∙ get_or-drop (get_or h.at p 0) s x 0
 
-  pub byte_past : (p x : ℕ) → get_or h.size p 0 ≤ x → get_or (shardIn s h p) x 0 ≡ 0
-  byte_past p x l = get_or-eq_default (shardIn s h p) 0 (rw (length-shardIn p) l)
+  pub byte_past : (p x : ℕ) → get_or h.size p 0 ≤ x → get_or (shard_in s h p) x 0 ≡ 0
+  byte_past p x l = get_or-eq_default (shard_in s h p) 0 (rw (length_shard_in p) l)
 
-  pub sized-true : (p n : ℕ) → n ≡ get_or h.size p 0 → 0 < n → has (shardIn s h) p ≡ true
-  sized-true p n e l = ap (λ (m : ℕ). ltb 0 m) (length-shardIn p ∙ sym e) ∙ lt-ltb 0 n l
+  pub sized_true : (p n : ℕ) → n ≡ get_or h.size p 0 → 0 < n → has (shard_in s h) p ≡ true
+  sized_true p n e l = ap (λ (m : ℕ). ltb 0 m) (length_shard_in p ∙ sym e) ∙ lt-ltb 0 n l
 
-  pub sized-false : (p n : ℕ) → n ≡ get_or h.size p 0 → n ≤ 0 → has (shardIn s h) p ≡ false
-  sized-false p n e l = ap (λ (m : ℕ). ltb 0 m) (length-shardIn p ∙ sym e) ∙ le-ltb 0 n l
+  pub sized_false : (p n : ℕ) → n ≡ get_or h.size p 0 → n ≤ 0 → has (shard_in s h) p ≡ false
+  sized_false p n e l = ap (λ (m : ℕ). ltb 0 m) (length_shard_in p ∙ sym e) ∙ le-ltb 0 n l
   -- ---- a byte that is lost

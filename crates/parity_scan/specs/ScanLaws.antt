@@ -14,159 +14,159 @@ use Rattle.std.proofs.lemmas.List.{length-replicate}
 use Rattle.std.proofs.lemmas.List.Edits.{sets}
 use Rattle.std.proofs.Math.Seq.{length-sets, get_or-append_seam, get_or-set_same, get_or-set_other, take-nil}
 use Rattle.wire.specs.LittleEndian.{bytes_of, number_at, AllBytes}
-use Rattle.wire.specs.LittleEndianLaws.{length-bytesOf}
-use Rattle.wire.specs.Stores.{sets-append}
+use Rattle.wire.specs.LittleEndianLaws.{length_bytes_of}
+use Rattle.wire.specs.Stores.{sets_append}
 use Rattle.galois.specs.Field.{plus, double, mul, power, inverse}
 use Rattle.galois.specs.FieldLaws.{
-  plus-zero,
-  zero-plus,
-  plus-self,
-  plus-swap,
+  plus_zero,
+  zero_plus,
+  plus_self,
+  plus_swap,
   plus_comm,
   plus_assoc,
-  plus-twice,
-  plus-lt,
-  mul-lt,
-  mul-zero,
+  plus_twice,
+  plus_lt,
+  mul_lt,
+  mul_zero,
   one-mul,
-  mul-plus,
-  mul-plus-left,
-  power-lt,
+  mul_plus,
+  mul_plus_left,
+  power_lt,
 }
-use Rattle.galois.specs.TableLaws.{power-positive, power-differs, undo-mul}
+use Rattle.galois.specs.TableLaws.{power_positive, power_differs, undo_mul}
 use Rattle.frames.specs.declared.Refusal.{Refusal}
 use Rattle.frames.specs.declared.Refusal.TheVariants.{ShortPart, SettingOutOfRange, NotAGroup, TooFewFrames, LateGroup}
 use Rattle.frames.specs.declared.Answer.{Answer}
 use Rattle.frames.specs.declared.Answer.TheVariants.{Written, Refused}
-use Rattle.frames.specs.Lists.{listed, joined, lengthsOf, parts, addUp, largest, total, count, other, every, among, different}
-use Rattle.frames.specs.Frames.{shard, longest, weight, parityByte, parityShard, type_at, shardAt, frame, frame_at, group}
+use Rattle.frames.specs.Lists.{listed, joined, lengths_of, parts, add_up, largest, total, count, other, every, among, different}
+use Rattle.frames.specs.Frames.{shard, longest, weight, parity_byte, parity_shard, type_at, shard_at, frame, frame_at, group}
 use Rattle.frames.specs.Outcomes.{
   Outcome,
   refused,
   wrote,
   answer_of,
-  bytesAfter,
-  lengthsAfter,
+  bytes_after,
+  lengths_after,
   Gives,
-  settingsOk,
-  lentOk,
-  lengthOk,
-  lengthsOk,
-  groupsEnd,
-  writeOf,
+  settings_ok,
+  lent_ok,
+  length_ok,
+  lengths_ok,
+  groups_end,
+  write_of,
 }
 use Rattle.frames.specs.Reading.{
-  sequenceOf,
+  sequence_of,
   group_of,
   place_of,
-  frameOk,
-  firstGroup,
-  heldShard,
+  frame_ok,
+  first_group,
+  held_shard,
   has,
   rest,
   solved,
   byte_at,
   len_at,
-  datagramAt,
+  datagram_at,
   found,
   same,
   holds,
-  readGroup,
-  readFrames,
+  read_group,
+  read_frames,
   read_of,
 }
 use Rattle.frames.specs.PlaceLaws.{
-  length-listed,
-  getD-listed,
+  length_listed,
+  get_d_listed,
   listed_same,
   listed_next,
-  listed-getD,
-  listed-bytes,
-  total-same,
-  total-plus,
-  total-none,
-  total-one,
-  total-two,
-  total-next,
+  listed_get_d,
+  listed_bytes,
+  total_same,
+  total_plus,
+  total_none,
+  total_one,
+  total_two,
+  total_next,
   count_none,
-  count-three,
+  count_three,
   other_none,
-  other-some,
+  other_some,
   Lost,
 }
 use Rattle.frames.specs.PartLaws.{
   packed_step,
-  packed-short,
-  packed-end,
-  lengths-step,
-  lengths-bad,
-  lengths-end,
+  packed_short,
+  packed_end,
+  lengths_step,
+  lengths_bad,
+  lengths_end,
   largest_step,
-  largest-end,
-  length-parts,
+  largest_end,
+  length_parts,
   part_at,
-  add-up-next,
-  add-up-le,
+  add_up_next,
+  add_up_le,
   length_part,
-  joined-append,
-  joined-next,
-  length-lengths,
-  lengths-next,
+  joined_append,
+  joined_next,
+  length_lengths,
+  lengths_next,
   stored,
-  lengths-parts,
-  getD-largest,
-  length-joined-next,
-  largest-le,
-  largest-ge,
-  size-le,
+  lengths_parts,
+  get_d_largest,
+  length_joined_next,
+  largest_le,
+  largest_ge,
+  size_le,
 }
 use Rattle.frames.specs.FrameLaws.{
-  length-shard,
-  parity-at,
-  shardAt-data,
-  shardAt-parity,
-  seq-of,
-  type-of,
+  length_shard,
+  parity_at,
+  shard_at_data,
+  shard_at_parity,
+  seq_of,
+  type_of,
   len_of,
-  shard-of,
-  len-shard,
+  shard_of,
+  len_shard,
   two_bytes,
   behind,
-  shard-bytes,
-  shard-low,
-  shard-high,
-  shard-byte,
-  type-lt,
-  length-parityShard,
-  length-frameAt,
-  drop-frameAt,
-  type-at,
-  len-at,
+  shard_bytes,
+  shard_low,
+  shard_high,
+  shard_byte_lem,
+  type_lt,
+  length_parity_shard,
+  length_frame_at,
+  drop_frame_at,
+  type_at_lem,
+  len_at_lem,
 }
-use Rattle.frames.specs.OutcomeLaws.{and_left, and_right, refusing, writing, add-up-most, same_self, lengths-at}
-use Rattle.wire.specs.LittleEndianLaws.{numberAt-drop}
+use Rattle.frames.specs.OutcomeLaws.{and_left, and_right, refusing, writing, add_up_most, same_self, lengths_at}
+use Rattle.wire.specs.LittleEndianLaws.{number_at_drop}
 use Rattle.parity_scan.specs.declared.Held.{Held}
 use Rattle.parity_scan.specs.declared.Scanned.{Scanned}
-use Rattle.parity_scan.specs.Held.{shardIn, sized, Inside, noted, Empty, Gathered, Scans}
+use Rattle.parity_scan.specs.Held.{shard_in, sized, Inside, noted, Empty, Gathered, Scans}
 use Rattle.recovery.specs.ReadingLaws.{passes}
-use Rattle.parity_scan.specs.HeldLaws.{length-shardIn}
+use Rattle.parity_scan.specs.HeldLaws.{length_shard_in}
 
-numberAt-take : (j n : ℕ) (l : List ℕ) (i : ℕ) → i + j ≤ n → number_at j (take n l) i ≡ number_at j l i
+number_at_take : (j n : ℕ) (l : List ℕ) (i : ℕ) → i + j ≤ n → number_at j (take n l) i ≡ number_at j l i
 unfolding number_at
-numberAt-take zero n l i h = refl
-numberAt-take (suc j) n l i h =
-    ap₂ (λ (a b : ℕ). a + 256 * b) (get_or-take n l i 0 (omega arith)) (numberAt-take j n l (suc i) (omega arith))
+number_at_take zero n l i h = refl
+number_at_take (suc j) n l i h =
+    ap₂ (λ (a b : ℕ). a + 256 * b) (get_or-take n l i 0 (omega arith)) (number_at_take j n l (suc i) (omega arith))
 
-pub numberAt-part : (j : ℕ) (s : List ℕ) (at n i : ℕ) → i + j ≤ n → number_at j (take n (drop at s)) i ≡ number_at j s (at + i)
-numberAt-part j s at n i h = numberAt-take j n (drop at s) i h ∙ numberAt-drop j at s i
+pub number_at_part : (j : ℕ) (s : List ℕ) (at n i : ℕ) → i + j ≤ n → number_at j (take n (drop at s)) i ≡ number_at j s (at + i)
+number_at_part j s at n i h = number_at_take j n (drop at s) i h ∙ number_at_drop j at s i
 
-pub type-data : (k p : ℕ) → p < k → type_at k p ≡ 241
+pub type_data : (k p : ℕ) → p < k → type_at k p ≡ 241
 unfolding type_at
-type-data k p h = rw (lt-ltb p k h)
+type_data k p h = rw (lt-ltb p k h)
 
-pub type-parity : (k p : ℕ) → k ≤ p → type_at k p ≡ 242
+pub type_parity : (k p : ℕ) → k ≤ p → type_at k p ≡ 242
 unfolding type_at
-type-parity k p h = rw (le-ltb p k h)
+type_parity k p h = rw (le-ltb p k h)
 
 pub frame_right :
     (k mtu g : ℕ) (f : List ℕ) (n p q t u len : ℕ) →
@@ -177,47 +177,47 @@ pub frame_right :
     t ≡ number_at 2 f 4 →
     u ≡ type_at k p →
     len ≡ number_at 2 f 6 →
-    (leb n (mtu + 8) && eqb q g && eqb t u && (leb k p || eqb len (n - 6))) ≡ frameOk k mtu g f
-unfolding frameOk
+    (leb n (mtu + 8) && eqb q g && eqb t u && (leb k p || eqb len (n - 6))) ≡ frame_ok k mtu g f
+unfolding frame_ok
 frame_right k mtu g f n p q t u len el h ep eq et eu en = rw (eu, ep, eq, et, en, el, le-leb 32 n h)
 
-pub frame-short : (k mtu g : ℕ) (f : List ℕ) (n : ℕ) → length f ≡ n → n < 32 → false ≡ frameOk k mtu g f
-unfolding frameOk
-frame-short k mtu g f n el h = rw (el, lt-leb 32 n h)
+pub frame_short : (k mtu g : ℕ) (f : List ℕ) (n : ℕ) → length f ≡ n → n < 32 → false ≡ frame_ok k mtu g f
+unfolding frame_ok
+frame_short k mtu g f n el h = rw (el, lt-leb 32 n h)
 
 -- ---- what is noted
 
-pub drop-take : (m n : ℕ) (l : List ℕ) → drop m (take n l) ≡ take (n - m) (drop m l)
-drop-take zero n l = let e : n ≡ n - 0 = omega arith in ap (λ (q : ℕ). take q l) e
-drop-take (suc m) zero [] = let e : 0 - suc m ≡ 0 = omega arith in sym (ap (λ (q : ℕ). take {A = ℕ} q []) e)
-drop-take (suc m) zero (x ∷ l) = let e : 0 - suc m ≡ 0 = omega arith in sym (ap (λ (q : ℕ). take q (drop m l)) e)
-drop-take (suc m) (suc n) [] = sym (take-nil (suc n - suc m))
-drop-take (suc m) (suc n) (x ∷ l) = let e : n - m ≡ suc n - suc m = omega arith in drop-take m n l ∙ ap (λ (q : ℕ). take q (drop m l)) e
+pub drop_take : (m n : ℕ) (l : List ℕ) → drop m (take n l) ≡ take (n - m) (drop m l)
+drop_take zero n l = let e : n ≡ n - 0 = omega arith in ap (λ (q : ℕ). take q l) e
+drop_take (suc m) zero [] = let e : 0 - suc m ≡ 0 = omega arith in sym (ap (λ (q : ℕ). take {A = ℕ} q []) e)
+drop_take (suc m) zero (x ∷ l) = let e : 0 - suc m ≡ 0 = omega arith in sym (ap (λ (q : ℕ). take q (drop m l)) e)
+drop_take (suc m) (suc n) [] = sym (take-nil (suc n - suc m))
+drop_take (suc m) (suc n) (x ∷ l) = let e : n - m ≡ suc n - suc m = omega arith in drop_take m n l ∙ ap (λ (q : ℕ). take q (drop m l)) e
 
 pub nonempty : List ℕ → List ℕ → List ℕ
 nonempty a b = cond (ltb 0 (length a)) a b
 
-pub every-cons : (t : List ℕ → Bool) (fs : List (List ℕ)) (i : ℕ) → i < length fs → t (get_or fs i []) ≡ true
+pub every_cons : (t : List ℕ → Bool) (fs : List (List ℕ)) (i : ℕ) → i < length fs → t (get_or fs i []) ≡ true
     → every t (drop i fs) ≡ every t (drop (i + 1) fs)
 unfolding every
-every-cons t fs i h e = rw (add-one, drop-cons fs i [], e)
+every_cons t fs i h e = rw (add-one, drop-cons fs i [], e)
 
-pub every-stop : (t : List ℕ → Bool) (fs : List (List ℕ)) (i : ℕ) → i < length fs → t (get_or fs i []) ≡ false → every t (drop i fs) ≡ false
+pub every_stop : (t : List ℕ → Bool) (fs : List (List ℕ)) (i : ℕ) → i < length fs → t (get_or fs i []) ≡ false → every t (drop i fs) ≡ false
 unfolding every
-every-stop t fs i h e = rw (drop-cons fs i [], e)
+every_stop t fs i h e = rw (drop-cons fs i [], e)
 
 -- what a scan has seen at frame i, which starts at `at`
 pub record Seen (s ns : List ℕ) (k mtu g : ℕ) (h : Held) (at i : ℕ) : Type 0 where
   pub within : i ≤ length ns
-  pub place : at ≡ addUp (take i ns)
-  pub checked : every (frameOk k mtu g) (parts s ns) ≡ every (frameOk k mtu g) (drop i (parts s ns))
+  pub place : at ≡ add_up (take i ns)
+  pub checked : every (frame_ok k mtu g) (parts s ns) ≡ every (frame_ok k mtu g) (drop i (parts s ns))
   pub inside : Inside s h
   pub places : length h.at ≡ 12
   pub sizes : length h.size ≡ 12
-  pub shards : (p : ℕ) → heldShard k (parts s ns) p ≡ nonempty (shardIn s h p) (heldShard k (drop i (parts s ns)) p)
+  pub shards : (p : ℕ) → held_shard k (parts s ns) p ≡ nonempty (shard_in s h p) (held_shard k (drop i (parts s ns)) p)
 
 pub seen_none : (s ns : List ℕ) (k mtu g : ℕ) (h : Held) → Empty h → length h.at ≡ 12 → length h.size ≡ 12 → Seen s ns k mtu g h 0 0
-unfolding nonempty shardIn addUp
+unfolding nonempty shard_in add_up
 seen_none s ns k mtu g h e a b = record {
   within = omega arith;
   place = refl;
@@ -229,80 +229,80 @@ seen_none s ns k mtu g h e a b = record {
 }
 
 module _ (s ns : List ℕ) (k mtu g : ℕ) (h : Held) (at i n : ℕ) (seen : Seen s ns k mtu g h at i)
-    (whole : addUp ns ≤ length s) (more : i < length ns) (en : n ≡ get_or ns i 0) where
-  part-is : get_or (parts s ns) i [] ≡ take n (drop at s)
-  part-is = part_at s ns i more ∙ ap₂ (λ (m a : ℕ). take m (drop a s)) (sym en) (sym seen.place)
+    (whole : add_up ns ≤ length s) (more : i < length ns) (en : n ≡ get_or ns i 0) where
+  part_is : get_or (parts s ns) i [] ≡ take n (drop at s)
+  part_is = part_at s ns i more ∙ ap₂ (λ (m a : ℕ). take m (drop a s)) (sym en) (sym seen.place)
 
   more_cut : i < length (parts s ns)
-  more_cut = rw (length-parts s ns) more
+  more_cut = rw (length_parts s ns) more
 
-  pub seen-room : at + n ≤ length s
-  seen-room =
-      let a : at ≡ addUp (take i ns) = seen.place in
-      omega (arith, add-up-next ns i more, add-up-le ns (i + 1))
+  pub seen_room : at + n ≤ length s
+  seen_room =
+      let a : at ≡ add_up (take i ns) = seen.place in
+      omega (arith, add_up_next ns i more, add_up_le ns (i + 1))
 
-  pub seen-stop : frameOk k mtu g (take n (drop at s)) ≡ false → every (frameOk k mtu g) (parts s ns) ≡ false
-  seen-stop e = seen.checked ∙ every-stop (frameOk k mtu g) (parts s ns) i more_cut (ap (frameOk k mtu g) part-is ∙ e)
+  pub seen_stop : frame_ok k mtu g (take n (drop at s)) ≡ false → every (frame_ok k mtu g) (parts s ns) ≡ false
+  seen_stop e = seen.checked ∙ every_stop (frame_ok k mtu g) (parts s ns) i more_cut (ap (frame_ok k mtu g) part_is ∙ e)
 
-  length-given : length (take n (drop at s)) ≡ n
-  length-given = length_part s at n seen-room
+  length_given : length (take n (drop at s)) ≡ n
+  length_given = length_part s at n seen_room
 
-  pub frame-long : frameOk k mtu g (take n (drop at s)) ≡ true → 32 ≤ n
-  frame-long e = rw length-given at (passes k mtu g (take n (drop at s)) e).long
+  pub frame_long : frame_ok k mtu g (take n (drop at s)) ≡ true → 32 ≤ n
+  frame_long e = rw length_given at (passes k mtu g (take n (drop at s)) e).long
 
-  module _ (q : ℕ) (ok : frameOk k mtu g (take n (drop at s)) ≡ true) (eq : q ≡ place_of k (take n (drop at s))) (lq : q < 12) where
+  module _ (q : ℕ) (ok : frame_ok k mtu g (take n (drop at s)) ≡ true) (eq : q ≡ place_of k (take n (drop at s))) (lq : q < 12) where
     -- the frame's own shard
     own : List ℕ
     own = take (n - 6) (drop (at + 6) s)
 
     own_is : drop 6 (take n (drop at s)) ≡ own
     unfolding own
-    own_is = drop-take 6 n (drop at s) ∙ ap (take (n - 6)) (drop-drop 6 at s)
+    own_is = drop_take 6 n (drop at s) ∙ ap (take (n - 6)) (drop-drop 6 at s)
 
     long : 32 ≤ n
-    long = frame-long ok
+    long = frame_long ok
 
-    length-own : length own ≡ n - 6
+    length_own : length own ≡ n - 6
     unfolding own
-    length-own = length_part s (at + 6) (n - 6) (let r : at + n ≤ length s = seen-room in let l : 32 ≤ n = long in omega arith)
+    length_own = length_part s (at + 6) (n - 6) (let r : at + n ≤ length s = seen_room in let l : 32 ≤ n = long in omega arith)
 
-    shard-cons : (p : ℕ) → heldShard k (drop i (parts s ns)) p ≡ cond (eqb q p) own (heldShard k (drop (i + 1) (parts s ns)) p)
-    unfolding heldShard
-    shard-cons p =
+    shard_cons : (p : ℕ) → held_shard k (drop i (parts s ns)) p ≡ cond (eqb q p) own (held_shard k (drop (i + 1) (parts s ns)) p)
+    unfolding held_shard
+    shard_cons p =
         let m : i < length (parts s ns) = more_cut in
-        rw (drop-cons (parts s ns) i [], part-is, ← eq, own_is, add-one)
+        rw (drop-cons (parts s ns) i [], part_is, ← eq, own_is, add-one)
 
-    old-inside : (p : ℕ) → get_or h.at p 0 + get_or h.size p 0 ≤ length s
-    old-inside p = seen.inside.inside p
+    old_inside : (p : ℕ) → get_or h.at p 0 + get_or h.size p 0 ≤ length s
+    old_inside p = seen.inside.inside p
 
     next : Held
     next = record { at = set h.at q (at + 6); size = set h.size q (n - 6) }
 
-    next-own : (p : ℕ) → q ≡ p → shardIn s next p ≡ own
-    unfolding shardIn next own
-    next-own p e =
+    next_own : (p : ℕ) → q ≡ p → shard_in s next p ≡ own
+    unfolding shard_in next own
+    next_own p e =
         let a : q < length h.at = rw seen.places lq in
         let b : q < length h.size = rw seen.sizes lq in
         subst (λ (r : ℕ). take (get_or (set h.size q (n - 6)) r 0) (drop (get_or (set h.at q (at + 6)) r 0) s) ≡ take (n - 6)
         (drop (at + 6) s)) e
         (ap₂ (λ (x y : ℕ). take x (drop y s)) (get_or-set_same h.size q (n - 6) 0 b) (get_or-set_same h.at q (at + 6) 0 a))
 
-    next-other : (p : ℕ) → (q ≡ p → ⊥) → shardIn s next p ≡ shardIn s h p
-    unfolding shardIn next
-    next-other p d =
+    next_other : (p : ℕ) → (q ≡ p → ⊥) → shard_in s next p ≡ shard_in s h p
+    unfolding shard_in next
+    next_other p d =
         ap₂ (λ (x y : ℕ). take x (drop y s)) (get_or-set_other h.size q p (n - 6) 0 (λ e. d (sym e)))
         (get_or-set_other h.at q p (at + 6) 0 (λ e. d (sym e)))
 
-    next-inside : (p : ℕ) → get_or next.at p 0 + get_or next.size p 0 ≤ length s
+    next_inside : (p : ℕ) → get_or next.at p 0 + get_or next.size p 0 ≤ length s
     unfolding next
-    next-inside p = go (eqb q p) refl
+    next_inside p = go (eqb q p) refl
       where
         go : (b : Bool) → eqb q p ≡ b → get_or (set h.at q (at + 6)) p 0 + get_or (set h.size q (n - 6)) p 0 ≤ length s
         go true e =
             let z : q ≡ p = eqb-true q p e in
             let a : q < length h.at = rw seen.places lq in
             let b : q < length h.size = rw seen.sizes lq in
-            let r : at + n ≤ length s = seen-room in
+            let r : at + n ≤ length s = seen_room in
             let l : 32 ≤ n = long in
             subst (λ (r : ℕ). get_or (set h.at q (at + 6)) r 0 + get_or (set h.size q (n - 6)) r 0 ≤ length s) z
             (omega (arith, get_or-set_same h.size q (n - 6) 0 b, get_or-set_same h.at q (at + 6) 0 a))
@@ -312,39 +312,39 @@ module _ (s ns : List ℕ) (k mtu g : ℕ) (h : Held) (at i n : ℕ) (seen : See
               arith,
               get_or-set_other h.size q p (n - 6) 0 (λ e. d (sym e)),
               get_or-set_other h.at q p (at + 6) 0 (λ e. d (sym e)),
-              old-inside p,
+              old_inside p,
             )
 
     -- one more frame seen, where its place had a shard
-    had-shard : sized h q ≡ true → (p : ℕ)
-        → nonempty (shardIn s h p) (heldShard k (drop i (parts s ns)) p) ≡ nonempty (shardIn s h p)
-        (heldShard k (drop (i + 1) (parts s ns)) p)
+    had_shard : sized h q ≡ true → (p : ℕ)
+        → nonempty (shard_in s h p) (held_shard k (drop i (parts s ns)) p) ≡ nonempty (shard_in s h p)
+        (held_shard k (drop (i + 1) (parts s ns)) p)
     unfolding nonempty sized
-    had-shard e p = ap (λ (l : List ℕ). cond (ltb 0 (length (shardIn s h p))) (shardIn s h p) l) (shard-cons p) ∙ go (eqb q p) refl
+    had_shard e p = ap (λ (l : List ℕ). cond (ltb 0 (length (shard_in s h p))) (shard_in s h p) l) (shard_cons p) ∙ go (eqb q p) refl
       where
         go : (b : Bool) → eqb q p ≡ b
-            → cond (ltb 0 (length (shardIn s h p))) (shardIn s h p) (cond b own (heldShard k (drop (i + 1) (parts s ns)) p))
-            ≡ cond (ltb 0 (length (shardIn s h p))) (shardIn s h p) (heldShard k (drop (i + 1) (parts s ns)) p)
-        go true f = rw (ap (λ (m : ℕ). ltb 0 m) (length-shardIn s h seen.inside p ∙ ap (λ (r : ℕ). get_or h.size r 0)
+            → cond (ltb 0 (length (shard_in s h p))) (shard_in s h p) (cond b own (held_shard k (drop (i + 1) (parts s ns)) p))
+            ≡ cond (ltb 0 (length (shard_in s h p))) (shard_in s h p) (held_shard k (drop (i + 1) (parts s ns)) p)
+        go true f = rw (ap (λ (m : ℕ). ltb 0 m) (length_shard_in s h seen.inside p ∙ ap (λ (r : ℕ). get_or h.size r 0)
             (sym (eqb-true q p f))) ∙ e)
         go false f = refl
 
     -- and where it had none
-    no-shard : sized h q ≡ false → (p : ℕ)
-        → nonempty (shardIn s h p) (heldShard k (drop i (parts s ns)) p) ≡ nonempty (shardIn s next p)
-        (heldShard k (drop (i + 1) (parts s ns)) p)
+    no_shard : sized h q ≡ false → (p : ℕ)
+        → nonempty (shard_in s h p) (held_shard k (drop i (parts s ns)) p) ≡ nonempty (shard_in s next p)
+        (held_shard k (drop (i + 1) (parts s ns)) p)
     unfolding nonempty sized
-    no-shard e p = ap (λ (l : List ℕ). cond (ltb 0 (length (shardIn s h p))) (shardIn s h p) l) (shard-cons p) ∙ go (eqb q p) refl
+    no_shard e p = ap (λ (l : List ℕ). cond (ltb 0 (length (shard_in s h p))) (shard_in s h p) l) (shard_cons p) ∙ go (eqb q p) refl
       where
         go : (b : Bool) → eqb q p ≡ b
-            → cond (ltb 0 (length (shardIn s h p))) (shardIn s h p) (cond b own (heldShard k (drop (i + 1) (parts s ns)) p))
-            ≡ cond (ltb 0 (length (shardIn s next p))) (shardIn s next p) (heldShard k (drop (i + 1) (parts s ns)) p)
+            → cond (ltb 0 (length (shard_in s h p))) (shard_in s h p) (cond b own (held_shard k (drop (i + 1) (parts s ns)) p))
+            ≡ cond (ltb 0 (length (shard_in s next p))) (shard_in s next p) (held_shard k (drop (i + 1) (parts s ns)) p)
         go true f =
-            let none : ltb 0 (length (shardIn s h p)) ≡ false =
-            ap (λ (m : ℕ). ltb 0 m) (length-shardIn s h seen.inside p ∙ ap (λ (r : ℕ). get_or h.size r 0) (sym (eqb-true q p f))) ∙ e in
+            let none : ltb 0 (length (shard_in s h p)) ≡ false =
+            ap (λ (m : ℕ). ltb 0 m) (length_shard_in s h seen.inside p ∙ ap (λ (r : ℕ). get_or h.size r 0) (sym (eqb-true q p f))) ∙ e in
             let l : 32 ≤ n = long in
-            rw (none, next-own p (eqb-true q p f), lt-ltb 0 (length own) (omega (arith, length-own)))
-        go false f = rw (next-other p (eqb-false q p f))
+            rw (none, next_own p (eqb-true q p f), lt-ltb 0 (length own) (omega (arith, length_own)))
+        go false f = rw (next_other p (eqb-false q p f))
 
     pub seen_next : Seen s ns k mtu g (noted h q (at + 6) (n - 6)) (at + n) (i + 1)
     unfolding noted next
@@ -353,11 +353,11 @@ module _ (s ns : List ℕ) (k mtu g : ℕ) (h : Held) (at i n : ℕ) (seen : See
         w : i + 1 ≤ length ns
         w = omega arith
 
-        a : at + n ≡ addUp (take (i + 1) ns)
-        a = let z : at ≡ addUp (take i ns) = seen.place in omega (arith, add-up-next ns i more)
+        a : at + n ≡ add_up (take (i + 1) ns)
+        a = let z : at ≡ add_up (take i ns) = seen.place in omega (arith, add_up_next ns i more)
 
-        c : every (frameOk k mtu g) (parts s ns) ≡ every (frameOk k mtu g) (drop (i + 1) (parts s ns))
-        c = seen.checked ∙ every-cons (frameOk k mtu g) (parts s ns) i more_cut (ap (frameOk k mtu g) part-is ∙ ok)
+        c : every (frame_ok k mtu g) (parts s ns) ≡ every (frame_ok k mtu g) (drop (i + 1) (parts s ns))
+        c = seen.checked ∙ every_cons (frame_ok k mtu g) (parts s ns) i more_cut (ap (frame_ok k mtu g) part_is ∙ ok)
 
         go : (b : Bool) → sized h q ≡ b
             → Seen s ns k mtu g (cond b h (record { at = set h.at q (at + 6); size = set h.size q (n - 6) })) (at + n) (i + 1)
@@ -368,29 +368,29 @@ module _ (s ns : List ℕ) (k mtu g : ℕ) (h : Held) (at i n : ℕ) (seen : See
           inside = seen.inside;
           places = seen.places;
           sizes = seen.sizes;
-          shards = λ p. seen.shards p ∙ had-shard e p;
+          shards = λ p. seen.shards p ∙ had_shard e p;
         }
         go false e = record {
           within = w;
           place = a;
           checked = c;
-          inside = record { inside = next-inside };
+          inside = record { inside = next_inside };
           places = length-set h.at q (at + 6) ∙ seen.places;
           sizes = length-set h.size q (n - 6) ∙ seen.sizes;
-          shards = λ p. seen.shards p ∙ no-shard e p;
+          shards = λ p. seen.shards p ∙ no_shard e p;
         }
 
 pub seen_all : (s ns : List ℕ) (k mtu g : ℕ) (h : Held) (at i : ℕ) → Seen s ns k mtu g h at i → length ns ≤ i
-    → (true ≡ every (frameOk k mtu g) (parts s ns)) × Gathered s ns k h
-unfolding every nonempty heldShard
+    → (true ≡ every (frame_ok k mtu g) (parts s ns)) × Gathered s ns k h
+unfolding every nonempty held_shard
 seen_all s ns k mtu g h at i seen l =
-    let m : length (parts s ns) ≤ i = rw (length-parts s ns) l in
+    let m : length (parts s ns) ≤ i = rw (length_parts s ns) l in
     let e : drop i (parts s ns) ≡ [] = drop_of_length-le (parts s ns) m in (
-      sym (seen.checked ∙ ap (every (frameOk k mtu g)) e),
+      sym (seen.checked ∙ ap (every (frame_ok k mtu g)) e),
       record {
         inside = seen.inside;
-        shards = λ p. sym (seen.shards p ∙ ap (λ (fs : List (List ℕ)). nonempty (shardIn s h p) (heldShard k fs p)) e ∙ self
-            (shardIn s h p));
+        shards = λ p. sym (seen.shards p ∙ ap (λ (fs : List (List ℕ)). nonempty (shard_in s h p) (held_shard k fs p)) e ∙ self
+            (shard_in s h p));
       },
     )
   where
@@ -398,44 +398,44 @@ seen_all s ns k mtu g h at i seen l =
     self [] = refl
     self (x ∷ l) = rw (lt-ltb 0 (suc (length l)) (omega arith))
 
-pub scan-wrong : (s ns : List ℕ) (k mtu n g : ℕ) (h : Held) → every (frameOk k mtu n) (parts s ns) ≡ false
+pub scan_wrong : (s ns : List ℕ) (k mtu n g : ℕ) (h : Held) → every (frame_ok k mtu n) (parts s ns) ≡ false
     → Scans s ns k mtu n (record { ok = false; group = g; held = h })
-scan-wrong s ns k mtu n g h e = record {
+scan_wrong s ns k mtu n g h e = record {
   right = sym e;
   group = λ z. let y : ◌≡◌ {A = ℕ} 0 1 = cc in absurd (omega arith);
   held = λ z. let y : ◌≡◌ {A = ℕ} 0 1 = cc in absurd (omega arith);
 }
 
-pub scan-right : (s ns : List ℕ) (k mtu n g : ℕ) (h : Held) → g ≡ n → (true ≡ every (frameOk k mtu n) (parts s ns)) × Gathered s ns k h
+pub scan_right : (s ns : List ℕ) (k mtu n g : ℕ) (h : Held) → g ≡ n → (true ≡ every (frame_ok k mtu n) (parts s ns)) × Gathered s ns k h
     → Scans s ns k mtu n (record { ok = true; group = g; held = h })
-scan-right s ns k mtu n g h q e = record { right = e.0; group = λ z. q; held = λ z. e.1 }
+scan_right s ns k mtu n g h q e = record { right = e.0; group = λ z. q; held = λ z. e.1 }
 
 -- no frames
-pub scan-none : (s ns : List ℕ) (k mtu : ℕ) (h : Held) → Empty h → length h.at ≡ 12 → length h.size ≡ 12 → length ns ≡ 0
-    → Scans s ns k mtu (firstGroup k (parts s ns)) (record { ok = true; group = 0; held = h })
-unfolding firstGroup parts
-scan-none s [] k mtu h e a b z =
-    scan-right s [] k mtu 0 0 h refl (seen_all s [] k mtu 0 h 0 0 (seen_none s [] k mtu 0 h e a b) (omega arith))
-scan-none s (n ∷ ns) k mtu h e a b z = absurd (omega arith)
+pub scan_none : (s ns : List ℕ) (k mtu : ℕ) (h : Held) → Empty h → length h.at ≡ 12 → length h.size ≡ 12 → length ns ≡ 0
+    → Scans s ns k mtu (first_group k (parts s ns)) (record { ok = true; group = 0; held = h })
+unfolding first_group parts
+scan_none s [] k mtu h e a b z =
+    scan_right s [] k mtu 0 0 h refl (seen_all s [] k mtu 0 h 0 0 (seen_none s [] k mtu 0 h e a b) (omega arith))
+scan_none s (n ∷ ns) k mtu h e a b z = absurd (omega arith)
 
-first-is : (s ns : List ℕ) → 0 < length ns → (k : ℕ) → firstGroup k (parts s ns) ≡ group_of k (take (get_or ns 0 0) (drop 0 s))
-unfolding firstGroup parts
-first-is s [] h k = absurd (omega arith)
-first-is s (n ∷ ns) h k = refl
+first_is : (s ns : List ℕ) → 0 < length ns → (k : ℕ) → first_group k (parts s ns) ≡ group_of k (take (get_or ns 0 0) (drop 0 s))
+unfolding first_group parts
+first_is s [] h k = absurd (omega arith)
+first_is s (n ∷ ns) h k = refl
 
-pub scan-first : (s ns : List ℕ) (k mtu n g : ℕ) (r : Scanned) → 0 < length ns → n ≡ get_or ns 0 0 → g ≡ group_of k (take n (drop 0 s))
+pub scan_first : (s ns : List ℕ) (k mtu n g : ℕ) (r : Scanned) → 0 < length ns → n ≡ get_or ns 0 0 → g ≡ group_of k (take n (drop 0 s))
     → Scans s ns k mtu g r
-    → Scans s ns k mtu (firstGroup k (parts s ns)) r
-scan-first s ns k mtu n g r h en eg f =
-    subst (λ (q : ℕ). Scans s ns k mtu q r) (eg ∙ ap (λ (m : ℕ). group_of k (take m (drop 0 s))) en ∙ sym (first-is s ns h k)) f
+    → Scans s ns k mtu (first_group k (parts s ns)) r
+scan_first s ns k mtu n g r h en eg f =
+    subst (λ (q : ℕ). Scans s ns k mtu q r) (eg ∙ ap (λ (m : ℕ). group_of k (take m (drop 0 s))) en ∙ sym (first_is s ns h k)) f
 
-pub first_short : (s ns : List ℕ) (k mtu n : ℕ) (h : Held) → addUp ns ≤ length s → 0 < length ns → n ≡ get_or ns 0 0 → n < 32
-    → Scans s ns k mtu (firstGroup k (parts s ns)) (record { ok = false; group = 0; held = h })
-unfolding parts every addUp
+pub first_short : (s ns : List ℕ) (k mtu n : ℕ) (h : Held) → add_up ns ≤ length s → 0 < length ns → n ≡ get_or ns 0 0 → n < 32
+    → Scans s ns k mtu (first_group k (parts s ns)) (record { ok = false; group = 0; held = h })
+unfolding parts every add_up
 first_short s [] k mtu n h w l e z = absurd (omega arith)
 first_short s (m ∷ ns) k mtu n h w l e z =
-    scan-wrong s (m ∷ ns) k mtu (firstGroup k (take m s ∷ parts (drop m s) ns)) 0 h
-    (rw (sym (frame-short k mtu (firstGroup k (take m s ∷ parts (drop m s) ns)) (take m s) m (length_part s 0 m (omega arith))
+    scan_wrong s (m ∷ ns) k mtu (first_group k (take m s ∷ parts (drop m s) ns)) 0 h
+    (rw (sym (frame_short k mtu (first_group k (take m s ∷ parts (drop m s) ns)) (take m s) m (length_part s 0 m (omega arith))
     (omega arith))))
 
 zeros : (n p : ℕ) → ◌≡◌ {A = ℕ} (get_or (replicate n 0) p 0) 0
@@ -443,5 +443,5 @@ zeros zero p = refl
 zeros (suc n) zero = refl
 zeros (suc n) (suc p) = zeros n p
 
-pub empty-held : Empty (record { at = replicate 12 0; size = replicate 12 0 })
-empty-held = record { places = λ p. zeros 12 p; sizes = λ p. zeros 12 p }
+pub empty_held : Empty (record { at = replicate 12 0; size = replicate 12 0 })
+empty_held = record { places = λ p. zeros 12 p; sizes = λ p. zeros 12 p }

@@ -1,9 +1,9 @@
 // The frames given to the reader: each checked by itself, and where the shard of each place is held.
 ghost use Rattle.std.specs.Prelude.{◌≡◌, ◌+◌, ◌≤◌, ◌<◌, length, take, drop};
 ghost use Rattle.wire.specs.LittleEndian.{number_at};
-ghost use Rattle.frames.specs.Lists.{addUp, parts, count};
+ghost use Rattle.frames.specs.Lists.{add_up, parts, count};
 ghost use Rattle.frames.specs.Frames.{type_at};
-ghost use Rattle.frames.specs.Reading.{sequenceOf, frameOk, group_of, place_of, firstGroup};
+ghost use Rattle.frames.specs.Reading.{sequence_of, frame_ok, group_of, place_of, first_group};
 ghost use Rattle.parity_scan.specs.Held.{noted, sized, Empty, Scans};
 
 use frames::{Frames, lent};
@@ -33,7 +33,7 @@ fn wide(x: u32) -> usize
 // The sequence of the frame of n bytes at `at`.
 fn sequence_at(s: &[u8], at: usize, n: usize) -> usize
     requires { (4 ≤ n) × (at + n ≤ length s.now) }
-    ensures { result ≡ sequenceOf (take n (drop at s.now)) }
+    ensures { result ≡ sequence_of (take n (drop at s.now)) }
 {
     wide(number::read_u32(s, at))
 }
@@ -75,7 +75,7 @@ fn type_at(k: usize, p: usize) -> u16
 // The frame of n bytes at `at` passes by itself, and is of this group.
 fn frame_ok(s: &[u8], at: usize, n: usize, k: usize, mtu: usize, group: usize) -> bool
     requires { (at + n ≤ length s.now) × (k ≤ 10) × (mtu ≤ 1400) }
-    ensures { result ≡ frameOk k mtu group (take n (drop at s.now)) }
+    ensures { result ≡ frame_ok k mtu group (take n (drop at s.now)) }
 {
     if n < 32 {
         return false;
@@ -106,7 +106,7 @@ fn note(h: Held, p: usize, at: usize, size: usize) -> Held
 
 // The frames in turn, all of one group.
 fn scan_from(s: &[u8], lengths: &[u16], k: usize, mtu: usize, group: usize, empty: Held) -> Scanned
-    requires { (addUp lengths.now ≤ length s.now) × (k ≤ 10) × (mtu ≤ 1400) × Empty empty }
+    requires { (add_up lengths.now ≤ length s.now) × (k ≤ 10) × (mtu ≤ 1400) × Empty empty }
     ensures { Scans s.now lengths.now k mtu group result }
 {
     let mut held = empty;
@@ -137,9 +137,9 @@ fn scan_from(s: &[u8], lengths: &[u16], k: usize, mtu: usize, group: usize, empt
 
 // All frames, checked by themselves and against the first one's group, and what is held.
 pub fn scan(s: &[u8], lengths: &[u16], k: usize, mtu: usize) -> Scanned
-    requires { (addUp lengths.now ≤ length s.now) × (k ≤ 10) × (mtu ≤ 1400) }
+    requires { (add_up lengths.now ≤ length s.now) × (k ≤ 10) × (mtu ≤ 1400) }
     ensures { Scans s.now lengths.now k mtu
-        (firstGroup k (parts s.now lengths.now)) result }
+        (first_group k (parts s.now lengths.now)) result }
 {
     let empty = Held {
         at: [0usize; 12],

@@ -1,8 +1,8 @@
 // The data frames of a group.
 ghost use Rattle.std.specs.Prelude.{◌≡◌, ◌+◌, ◌*◌, ◌≤◌, ◌<◌, length, take, drop};
 ghost use Rattle.std.proofs.lemmas.List.Edits.{sets};
-ghost use Rattle.frames.specs.Lists.{addUp, parts, listed, joined, lengthsOf};
-ghost use Rattle.frames.specs.Frames.{dataType, shard, frame, frame_at};
+ghost use Rattle.frames.specs.Lists.{add_up, parts, listed, joined, lengths_of};
+ghost use Rattle.frames.specs.Frames.{data_type, shard, frame, frame_at};
 ghost use Rattle.parity_writer.specs.Room.{FitsData};
 
 use frames::{Frames, lent};
@@ -12,7 +12,7 @@ use wire::number;
 fn put_data(out: &mut [u8], at: usize, sequence: u32, s: &[u8], from: usize, n: usize)
     requires { (from + n ≤ length s.now) × (at + 8 + n ≤ length out.old) × (n + 2 < 65536) }
     ensures { out.new
-        ≡ sets out.old at (frame sequence dataType (shard (take n (drop from s.now)))) }
+        ≡ sets out.old at (frame sequence data_type (shard (take n (drop from s.now)))) }
 {
     number::put_u32(out, at, sequence);
     number::put_u16(out, at + 4, Frames::DATA);
@@ -29,11 +29,11 @@ pub fn put_all_data(
     out_lengths: &mut [u16],
 ) -> usize
     requires { FitsData start s.now lengths.now (length out.old) (length out_lengths.old) }
-    ensures next { result ≡ addUp lengths.now + 8 * length lengths.now }
+    ensures next { result ≡ add_up lengths.now + 8 * length lengths.now }
     ensures bytes { out.new ≡ sets out.old 0
         (joined (listed (frame_at start (parts s.now lengths.now)) (length lengths.now))) }
     ensures lengths { out_lengths.new ≡ sets out_lengths.old 0
-        (lengthsOf (listed (frame_at start (parts s.now lengths.now)) (length lengths.now))) }
+        (lengths_of (listed (frame_at start (parts s.now lengths.now)) (length lengths.now))) }
 {
     let mut sequence = start;
     let mut from = 0;

@@ -4,9 +4,9 @@ mod shards;
 
 ghost use Rattle.std.specs.Prelude.{◌≡◌, length};
 ghost use Rattle.std.proofs.lemmas.List.Edits.{sets};
-ghost use Rattle.frames.specs.Lists.{parts, joined, lengthsOf};
+ghost use Rattle.frames.specs.Lists.{parts, joined, lengths_of};
 ghost use Rattle.frames.specs.Frames.{group};
-ghost use Rattle.frames.specs.Outcomes.{Gives, writeOf};
+ghost use Rattle.frames.specs.Outcomes.{Gives, write_of};
 ghost use Rattle.parity_writer.specs.Room.{Fits};
 
 use frames::{Answer, Frames, Refusal, lent};
@@ -17,7 +17,7 @@ fn put_group(start: u32, s: &[u8], lengths: &[u16], out: &mut [u8], out_lengths:
     ensures bytes { out.new
         ≡ sets out.old 0 (joined (group start (parts s.now lengths.now))) }
     ensures lengths { out_lengths.new
-        ≡ sets out_lengths.old 0 (lengthsOf (group start (parts s.now lengths.now))) }
+        ≡ sets out_lengths.old 0 (lengths_of (group start (parts s.now lengths.now))) }
 {
     let k = lengths.len();
     let most = shards::largest_of(lengths);
@@ -49,7 +49,7 @@ pub fn write_group(
     out_lengths: &mut [u16],
 ) -> Answer
     ensures { Gives
-        (writeOf group k mtu datagrams.now lengths.now
+        (write_of group k mtu datagrams.now lengths.now
         (length out.old) (length out_lengths.old))
         out.old out_lengths.old result out.new out_lengths.new }
 {

@@ -4,8 +4,8 @@ ghost use Rattle.std.proofs.lemmas.List.Edits.{sets};
 ghost use Rattle.wire.specs.LittleEndian.{AllBytes};
 ghost use Rattle.galois.specs.Field.{plus};
 ghost use Rattle.rows.specs.Rows.{Row};
-ghost use Rattle.frames.specs.Lists.{addUp, largest, parts};
-ghost use Rattle.frames.specs.Frames.{parityType, shard, parityShard, frame};
+ghost use Rattle.frames.specs.Lists.{add_up, largest, parts};
+ghost use Rattle.frames.specs.Frames.{parity_type, shard, parity_shard, frame};
 
 use frames::{Frames, lent};
 use wire::number;
@@ -40,9 +40,9 @@ fn add_shard(row: &mut [u8], s: &[u8], from: usize, n: usize)
 
 // Parity shard w of the packed datagrams, in a row as long as their longest shard.
 fn parity_row(w: usize, s: &[u8], lengths: &[u16], total: usize, row: &mut [u8])
-    requires { (total ≡ addUp lengths.now) × (total ≤ length s.now) × (length row.old ≡ largest lengths.now + 2)
+    requires { (total ≡ add_up lengths.now) × (total ≤ length s.now) × (length row.old ≡ largest lengths.now + 2)
         × (largest lengths.now + 2 < 65536) }
-    ensures { row.new ≡ parityShard w (parts s.now lengths.now) }
+    ensures { row.new ≡ parity_shard w (parts s.now lengths.now) }
 {
     rows::clear(row);
     let mut from = total;
@@ -66,10 +66,10 @@ pub fn put_parity(
     lengths: &[u16],
     total: usize,
 )
-    requires { (total ≡ addUp lengths.now) × (total ≤ length s.now) × (at + (largest lengths.now + 8) ≤ length out.old)
+    requires { (total ≡ add_up lengths.now) × (total ≤ length s.now) × (at + (largest lengths.now + 8) ≤ length out.old)
         × (largest lengths.now + 8 < 65536) }
     ensures { out.new
-        ≡ sets out.old at (frame sequence parityType (parityShard w (parts s.now lengths.now))) }
+        ≡ sets out.old at (frame sequence parity_type (parity_shard w (parts s.now lengths.now))) }
 {
     let size = lent::wide(largest_of(lengths)) + 2;
     let shard = at + Frames::SHARD;

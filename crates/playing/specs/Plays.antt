@@ -3,7 +3,7 @@
 -- x is what is given, and s', r', a' and text' are the parts and the text after it.
 -- Assumes nothing.
 use Rattle.std.specs.Prelude.{◌≡◌, Bool, true, false, List, ◌++◌, ℕ, ◌-◌, ◌≤◌, ◌<◌, min, length, take, drop, get_or, set, replicate}
-use Rattle.protocol.specs.Protocol.{outputLeast, lengthsLeast}
+use Rattle.protocol.specs.Protocol.{output_least, lengths_least}
 use Rattle.protocol.specs.declared.Settings.{Settings}
 use Rattle.protocol.specs.declared.Refusal.TheVariants.{InvalidBlock}
 use Rattle.answers.specs.declared.Count.{Count}
@@ -15,8 +15,8 @@ use Rattle.timing.specs.declared.Record.{Record}
 use Rattle.control.specs.declared.Link.{Link}
 use Rattle.notation.specs.Ascii.{ascii}
 use Rattle.notation.specs.Puts.{Put}
-use Rattle.transcript.specs.Lines.{bytesLine, refusalLine, answerLine, countLine, timeLine, datagramLines, stateLine, heldLine}
-use Rattle.bench.specs.Fields.{countsOf, Jumped, IsField, Poked, HasField, HeldChanged, holds}
+use Rattle.transcript.specs.Lines.{bytes_line, refusal_line, answer_line, count_line, time_line, datagram_lines, state_line, held_line}
+use Rattle.bench.specs.Fields.{counts_of, Jumped, IsField, Poked, HasField, HeldChanged, holds}
 use Rattle.bench.specs.declared.Lent.{Lent}
 use Rattle.bench.specs.declared.Bench.{Bench}
 use Rattle.bench_calls.specs.declared.Answered.{Answered}
@@ -50,69 +50,69 @@ Ok b = Says b (ascii "ok\n")
 pub record PlaysOpen (c : Settings) (b : Bench) (s r a text : List ℕ) (x : Played) (text' : List ℕ) : Type 0 where
   pub done : Answered
   pub promise : BenchOpens c b s r a done
-  pub says : Says done.bench (answerLine done.answer) text x text'
+  pub says : Says done.bench (answer_line done.answer) text x text'
 
 pub record PlaysSend (message : List ℕ) (b : Bench) (s r a text : List ℕ) (x : Played) (s' text' : List ℕ) : Type 0 where
   pub done : Answered
   pub promise : BenchSends message b s r a done s'
-  pub says : Says done.bench (answerLine done.answer) text x text'
+  pub says : Says done.bench (answer_line done.answer) text x text'
 
 pub record PlaysInput (datagram : List ℕ) (b : Bench) (s r a text : List ℕ) (x : Played) (r' a' text' : List ℕ) : Type 0 where
   pub done : Answered
   pub promise : BenchTakesIn datagram b s r a done r' a'
-  pub says : Says done.bench (answerLine done.answer) text x text'
+  pub says : Says done.bench (answer_line done.answer) text x text'
 
 -- the datagrams of a flush, one a line, and their count
-abbrev pub flushLines : List ℕ → List ℕ → Count → List ℕ
-flushLines output lengths (Of n) = datagramLines output (take n lengths) ++ countLine (Of n)
-flushLines output lengths (Refused e) = refusalLine e
+abbrev pub flush_lines : List ℕ → List ℕ → Count → List ℕ
+flush_lines output lengths (Of n) = datagram_lines output (take n lengths) ++ count_line (Of n)
+flush_lines output lengths (Refused e) = refusal_line e
 
 -- output and lengths are zero before it
 pub record PlaysFlush (t : ℕ) (b : Bench) (s r a text : List ℕ) (x : Played) (text' : List ℕ) : Type 0 where
   pub done : Counted
   pub output : List ℕ
   pub lengths : List ℕ
-  pub promise : BenchFlushes t b s r a (replicate outputLeast 0) (replicate lengthsLeast 0) done output lengths
-  pub says : Says done.bench (flushLines output lengths done.answer) text x text'
+  pub promise : BenchFlushes t b s r a (replicate output_least 0) (replicate lengths_least 0) done output lengths
+  pub says : Says done.bench (flush_lines output lengths done.answer) text x text'
 
 -- of an update: the same where it flushes; where it does not, `ok` alone
-abbrev pub updateLines : List ℕ → List ℕ → Update → List ℕ
-updateLines output lengths update.Waited = ascii "ok\n"
-updateLines output lengths (update.Wrote n) = flushLines output lengths (Of n)
-updateLines output lengths (update.Refused e) = refusalLine e
+abbrev pub update_lines : List ℕ → List ℕ → Update → List ℕ
+update_lines output lengths update.Waited = ascii "ok\n"
+update_lines output lengths (update.Wrote n) = flush_lines output lengths (Of n)
+update_lines output lengths (update.Refused e) = refusal_line e
 
 pub record PlaysUpdate (t : ℕ) (b : Bench) (s r a text : List ℕ) (x : Played) (text' : List ℕ) : Type 0 where
   pub done : Updated
   pub output : List ℕ
   pub lengths : List ℕ
-  pub promise : BenchUpdates t b s r a (replicate outputLeast 0) (replicate lengthsLeast 0) done output lengths
-  pub says : Says done.bench (updateLines output lengths done.answer) text x text'
+  pub promise : BenchUpdates t b s r a (replicate output_least 0) (replicate lengths_least 0) done output lengths
+  pub says : Says done.bench (update_lines output lengths done.answer) text x text'
 
 pub record PlaysCheck (t : ℕ) (b : Bench) (s r a text : List ℕ) (x : Played) (text' : List ℕ) : Type 0 where
   pub time : Time
   pub promise : BenchChecks t b s r a time
-  pub says : Says (still b) (timeLine time) text x text'
+  pub says : Says (still b) (time_line time) text x text'
 
-abbrev pub readLine : List ℕ → Count → List ℕ
-readLine buffer (Of n) = bytesLine (ascii "message ") (take n buffer)
-readLine buffer (Refused e) = refusalLine e
+abbrev pub read_line : List ℕ → Count → List ℕ
+read_line buffer (Of n) = bytes_line (ascii "message ") (take n buffer)
+read_line buffer (Refused e) = refusal_line e
 
 -- the buffer is zero before it
 pub record PlaysRead (room : ℕ) (b : Bench) (s r a text : List ℕ) (x : Played) (text' : List ℕ) : Type 0 where
   pub done : Counted
   pub buffer : List ℕ
   pub promise : BenchReads b s r a room (replicate 60000 0) done buffer
-  pub says : Says done.bench (readLine buffer done.answer) text x text'
+  pub says : Says done.bench (read_line buffer done.answer) text x text'
 
 pub record PlaysSize (b : Bench) (s r a text : List ℕ) (x : Played) (text' : List ℕ) : Type 0 where
   pub count : Count
   pub promise : BenchTells b s r a count
-  pub says : Says (still b) (countLine count) text x text'
+  pub says : Says (still b) (count_line count) text x text'
 
 pub record PlaysShow (b : Bench) (s r a text : List ℕ) (x : Played) (text' : List ℕ) : Type 0 where
   pub part : List ℕ
   pub promise : BenchShows b s r a part
-  pub says : Says (still b) (bytesLine (ascii "part ") part) text x text'
+  pub says : Says (still b) (bytes_line (ascii "part ") part) text x text'
 
 -- ---- the commands that look at the bench, or change it by hand
 
@@ -128,7 +128,7 @@ pub record PlaysJump (snd rcv : ℕ) (b : Bench) (text : List ℕ) (x : Played) 
 
 pub record PlaysLend (part count : ℕ) (b : Bench) (text : List ℕ) (x : Played) (text' : List ℕ) : Type 0 where
   pub lent : Lent
-  pub counts : part ≤ 5 → countsOf lent ≡ set (countsOf b.lent) part count
+  pub counts : part ≤ 5 → counts_of lent ≡ set (counts_of b.lent) part count
   pub says : Ok (record { link = b.link; table = b.table; lent = lent; opened = b.opened; fresh = false }) text x text'
 
 pub record PlaysPoke (field value : ℕ) (b : Bench) (text : List ℕ) (x : Played) (text' : List ℕ) : Type 0 where
@@ -147,8 +147,8 @@ pub record PlaysHold (list index field value : ℕ) (b : Bench) (text : List ℕ
   pub none : list ≤ 3 → get_or (holds b.link) list 0 ≤ index → NoCommand b text x text'
 
 abbrev pub PlaysTool : Command → Bench → List ℕ → Played → List ℕ → Type 0
-PlaysTool command.State b = Says (still b) (stateLine b.link)
-PlaysTool command.Held b = Says (still b) (heldLine b.link b.table)
+PlaysTool command.State b = Says (still b) (state_line b.link)
+PlaysTool command.Held b = Says (still b) (held_line b.link b.table)
 PlaysTool (command.Jump snd rcv) b = PlaysJump snd rcv b
 PlaysTool (command.Lend part count) b = PlaysLend part count b
 PlaysTool (command.Poke field value) b = PlaysPoke field value b
@@ -171,12 +171,12 @@ PlaysTool command.Malformed b = NoCommand b
 -- before any accepted opening
 pub record PlaysUnopened (c : Command) (b : Bench) (text : List ℕ) (x : Played) (text' : List ℕ) : Type 0 where
   pub show : c ≡ command.Show → Says b (ascii "part -\n") text x text'
-  pub other : (c ≡ command.Show → ⊥) → Says b (refusalLine InvalidBlock) text x text'
+  pub other : (c ≡ command.Show → ⊥) → Says b (refusal_line InvalidBlock) text x text'
 
 -- the lent parts as they were
 pub record Untouched (s r a s' r' a' : List ℕ) : Type 0 where
-  pub sendPool : s' ≡ s
-  pub receivePool : r' ≡ r
+  pub send_pool : s' ≡ s
+  pub receive_pool : r' ≡ r
   pub acks : a' ≡ a
 
 -- on a link that has been opened; the first bytes of `bytes` are the message or the datagram
@@ -209,13 +209,13 @@ PlaysOnLink command.Malformed b s r a bytes text x s' r' a' text' = Untouched s 
 
 -- neither `open` nor malformed
 pub record IsLater (c : Command) : Type 0 where
-  pub notMalformed : c ≡ command.Malformed → ⊥
-  pub notOpen : (conv mtu mode interval threshold stream congestion : ℕ)
+  pub not_malformed : c ≡ command.Malformed → ⊥
+  pub not_open : (conv mtu mode interval threshold stream congestion : ℕ)
       → c ≡ command.Open conv mtu mode interval threshold stream congestion → ⊥
 
 -- the settings of `open`: one that is too large for its width becomes the largest of that width, which is out of range too
-abbrev pub settingsOf : ℕ → ℕ → ℕ → ℕ → ℕ → ℕ → ℕ → Settings
-settingsOf conv mtu mode interval threshold stream congestion =
+abbrev pub settings_of : ℕ → ℕ → ℕ → ℕ → ℕ → ℕ → ℕ → Settings
+settings_of conv mtu mode interval threshold stream congestion =
     record {
       conv = conv;
       mtu = min mtu 65535;
@@ -231,8 +231,8 @@ pub record Plays (c : Command) (b : Bench) (s r a bytes text : List ℕ) (x : Pl
   pub malformed : c ≡ command.Malformed → Untouched s r a s' r' a' × NoCommand b text x text'
   pub opens : (conv mtu mode interval threshold stream congestion : ℕ)
       → c ≡ command.Open conv mtu mode interval threshold stream congestion →
-      Untouched s r a s' r' a' × PlaysOpen (settingsOf conv mtu mode interval threshold stream congestion) b s r a text x text'
-  pub onLink : IsLater c → b.opened ≡ true → PlaysOnLink c b s r a bytes text x s' r' a' text'
+      Untouched s r a s' r' a' × PlaysOpen (settings_of conv mtu mode interval threshold stream congestion) b s r a text x text'
+  pub on_link : IsLater c → b.opened ≡ true → PlaysOnLink c b s r a bytes text x s' r' a' text'
   pub unopened : IsLater c → b.opened ≡ false → Untouched s r a s' r' a' × PlaysUnopened c b text x text'
 
 -- ---- lines

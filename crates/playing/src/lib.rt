@@ -1,11 +1,11 @@
 // What each command of a script does, and its answer as text.
 ghost use Rattle.std.specs.Prelude.{◌≡◌, min, take, set, ◌++◌};
 ghost use Rattle.notation.specs.Ascii.{ascii};
-ghost use Rattle.transcript.specs.Lines.{bytesLine, refusalLine, answerLine, countLine, datagramLines, stateLine, heldLine};
+ghost use Rattle.transcript.specs.Lines.{bytes_line, refusal_line, answer_line, count_line, datagram_lines, state_line, held_line};
 ghost use Rattle.bench_calls.specs.BenchPromises.{after};
 ghost use Rattle.playing.specs.Plays.{PlaysUpdate, PlaysCheck, Says, still, NoCommand, Ok, PlaysOpen, PlaysSend};
 ghost use Rattle.playing.specs.Plays.{PlaysInput, PlaysFlush, PlaysRead, PlaysSize, PlaysShow, PlaysJump, PlaysLend};
-ghost use Rattle.playing.specs.Plays.{PlaysPoke, PlaysHold, PlaysTool, PlaysUnopened, PlaysOnLink, settingsOf, Plays};
+ghost use Rattle.playing.specs.Plays.{PlaysPoke, PlaysHold, PlaysTool, PlaysUnopened, PlaysOnLink, settings_of, Plays};
 ghost use Rattle.playing.specs.Plays.{PlaysLine};
 
 use answers::{Answer, Count, Update};
@@ -52,7 +52,7 @@ fn settings_of(
     stream: u32,
     congestion: u32,
 ) -> Settings
-    ensures { result ≡ settingsOf conv mtu mode interval threshold stream congestion }
+    ensures { result ≡ settings_of conv mtu mode interval threshold stream congestion }
 {
     Protocol::settings(
         conv,
@@ -83,7 +83,7 @@ fn malformed(bench: Bench, text: &mut [u8]) -> Played
 }
 
 fn answered(done: Answered, text: &mut [u8]) -> Played
-    ensures { Says done.bench (answerLine done.answer) text.old result text.new }
+    ensures { Says done.bench (answer_line done.answer) text.old result text.new }
 {
     let answer = done.answer;
     let after = done.bench;
@@ -144,7 +144,7 @@ fn input(
 
 // The datagrams of a flush, and their count.
 fn flushed(bench: Bench, packed: &[u8], lengths: &[u16], n: usize, text: &mut [u8]) -> Played
-    ensures { Says bench (datagramLines packed.now (take n lengths.now) ++ countLine (Count.Of n))
+    ensures { Says bench (datagram_lines packed.now (take n lengths.now) ++ count_line (Count.Of n))
         text.old result text.new }
 {
     let at = transcript::datagrams(text, 0, packed, lengths, n);
@@ -153,7 +153,7 @@ fn flushed(bench: Bench, packed: &[u8], lengths: &[u16], n: usize, text: &mut [u
 }
 
 fn refused(bench: Bench, refusal: Refusal, text: &mut [u8]) -> Played
-    ensures { Says bench (refusalLine refusal) text.old result text.new }
+    ensures { Says bench (refusal_line refusal) text.old result text.new }
 {
     let len = transcript::refused(text, 0, refusal);
     Played { bench, len }
@@ -246,7 +246,7 @@ fn check(
 
 // The message that was read: the first `count` bytes of `bytes`.
 fn message(bench: Bench, bytes: &[u8], count: usize, text: &mut [u8]) -> Played
-    ensures { Says bench (bytesLine (ascii "message ") (take count bytes.now))
+    ensures { Says bench (bytes_line (ascii "message ") (take count bytes.now))
         text.old result text.new }
 {
     let n = bench_calls::front(count, bytes);
@@ -320,14 +320,14 @@ fn ok(bench: Bench, text: &mut [u8]) -> Played
 }
 
 fn state(bench: Bench, text: &mut [u8]) -> Played
-    ensures { Says (still bench) (stateLine bench.link) text.old result text.new }
+    ensures { Says (still bench) (state_line bench.link) text.old result text.new }
 {
     let len = link::state(text, 0, bench.link);
     unchanged(bench, len)
 }
 
 fn held(bench: Bench, text: &mut [u8]) -> Played
-    ensures { Says (still bench) (heldLine bench.link bench.table) text.old result text.new }
+    ensures { Says (still bench) (held_line bench.link bench.table) text.old result text.new }
 {
     let table = bench.table;
     let len = link::segments(text, 0, bench.link, table);

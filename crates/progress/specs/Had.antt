@@ -9,52 +9,52 @@ use Rattle.std.proofs.lemmas.Bool.{false≢true, eqb-false}
 use mathlib.Core.List.{List, [], ◌∷◌, ◌++◌, map}
 use Rattle.std.proofs.Math.Nat.{le_refl}
 use Rattle.std.proofs.Math.Dec.{eqb}
-use Rattle.protocol.specs.Protocol.{push, windowAsk, receiveWindow, receiveSlots, acksMost}
-use Rattle.protocol.specs.Serial.{plus, minus, isBefore}
+use Rattle.protocol.specs.Protocol.{push, window_ask, receive_window, receive_slots, acks_most}
+use Rattle.protocol.specs.Serial.{plus, minus, is_before}
 use Rattle.datagram.specs.Datagrams.{Segment}
 use Rattle.lists.specs.declared.Held.{Held}
 use Rattle.lists.specs.declared.Waiting.{Waiting}
-use Rattle.lists.specs.Orders.{waitingOffset, is_held, insert}
-use Rattle.lists.specs.OrderLaws.{Between, insert-between}
-use Rattle.lists.specs.Receiving.{Received, isNext, advance}
-use Rattle.session.specs.Slots.{occurs, lowestFree}
-use Rattle.session.specs.State.{Receiving, Ack, receiveHeld, slots, withLists, withNotes}
+use Rattle.lists.specs.Orders.{waiting_offset, is_held, insert}
+use Rattle.lists.specs.OrderLaws.{Between, insert_between}
+use Rattle.lists.specs.Receiving.{Received, is_next, advance}
+use Rattle.session.specs.Slots.{occurs, lowest_free}
+use Rattle.session.specs.State.{Receiving, Ack, receive_held, slots, with_lists, with_notes}
 use Rattle.session.specs.Input.{
   Receiver,
-  inWindow,
+  in_window,
   noted,
-  isNew,
+  is_new,
   kept,
-  movedUp,
-  movedUpIn,
-  withAcks,
+  moved_up,
+  moved_up_in,
+  with_acks,
   pushed,
   asked,
-  heardByReceiving,
-  allByReceiving,
+  heard_by_receiving,
+  all_by_receiving,
 }
-use Rattle.session.specs.Reading.{frontCount, afterRead}
+use Rattle.session.specs.Reading.{front_count, after_read}
 use Rattle.session.specs.Decides.{All, and_parts}
 use Rattle.session.specs.AllLaws.{all_append, all_weaker}
-use Rattle.delivery.specs.PlainReceiver.{pushNumbers}
-use Rattle.delivery.specs.FreeSlots.{occurs-append}
-use Rattle.delivery.specs.InsertLaws.{between-map, all-between}
+use Rattle.delivery.specs.PlainReceiver.{push_numbers}
+use Rattle.delivery.specs.FreeSlots.{occurs_append}
+use Rattle.delivery.specs.InsertLaws.{between_map, all_between}
 use Rattle.delivery.specs.FedLaws.{or-true, or_right}
 use Rattle.progress.specs.SmallNumbers.{before_small, or_left}
 
 -- ---- what is had
 
-abbrev pub waitingNumbers : List Waiting → List ℕ
-waitingNumbers l = map (λ (w : Waiting). w.number) l
+abbrev pub waiting_numbers : List Waiting → List ℕ
+waiting_numbers l = map (λ (w : Waiting). w.number) l
 
 abbrev pub waits : List Waiting → ℕ → Bool
-waits l n = occurs n (waitingNumbers l)
+waits l n = occurs n (waiting_numbers l)
 
-abbrev pub hasIn : ℕ → List Waiting → ℕ → Bool
-hasIn next l n = ltb n next || occurs n (waitingNumbers l)
+abbrev pub has_in : ℕ → List Waiting → ℕ → Bool
+has_in next l n = ltb n next || occurs n (waiting_numbers l)
 
 abbrev pub has : Receiving → ℕ → Bool
-has r n = hasIn r.next r.waiting n
+has r n = has_in r.next r.waiting n
 
 -- all that it has lies below N
 abbrev pub Known : ℕ → Receiving → Type 0
@@ -70,9 +70,9 @@ known_next N r k = go r.next (λ n h. k n (or_left (ltb n r.next) (waits r.waiti
     go zero h = zero-le
     go (suc m) h = h m (lt-ltb m (suc m) (le_refl (suc m)))
 
-known-waiting : (N : ℕ) (r : Receiving) → Known N r → Under N r.waiting
+known_waiting : (N : ℕ) (r : Receiving) → Known N r → Under N r.waiting
 unfolding occurs
-known-waiting N r k = go r.waiting (λ n h. k n (or_right (ltb n r.next) (waits r.waiting n) h))
+known_waiting N r k = go r.waiting (λ n h. k n (or_right (ltb n r.next) (waits r.waiting n) h))
   where
     go : (l : List Waiting) → ((n : ℕ) → waits l n ≡ true → n < N) → Under N l
     go [] h = tt
@@ -85,7 +85,7 @@ known-waiting N r k = go r.waiting (λ n h. k n (or_right (ltb n r.next) (waits 
 
 -- it changes nothing of what is had, and rcv_nxt grows by as many as become ready
 record Moved (next : ℕ) (ready : List Held) (l : List Waiting) (u : Received) : Type 0 where
-  same : (n : ℕ) → hasIn u.next u.waiting n ≡ hasIn next l n
+  same : (n : ℕ) → has_in u.next u.waiting n ≡ has_in next l n
   up : next ≤ u.next
   level : length u.ready + next ≡ length ready + u.next
 
@@ -100,17 +100,17 @@ one_more n m x = go (ltb n m) refl (eqb n m) refl
 moved : (l : List Waiting) (next : ℕ) (ready : List Held) → Under (2 ^ 31) l → next ≤ 2 ^ 31 → Moved next ready l (advance next ready l)
 unfolding advance occurs
 moved [] next ready a h = record { same = λ n. refl; up = le_refl next; level = refl }
-moved (w ∷ l) next ready a h = go (isNext next w && ltb (length ready) receiveWindow) refl (λ x y. moved l x y a.1)
+moved (w ∷ l) next ready a h = go (is_next next w && ltb (length ready) receive_window) refl (λ x y. moved l x y a.1)
   where
-    go : (t : Bool) → (isNext next w && ltb (length ready) receiveWindow) ≡ t
+    go : (t : Bool) → (is_next next w && ltb (length ready) receive_window) ≡ t
         → ((x : ℕ) (y : List Held) → x ≤ 2 ^ 31 → Moved x y l (advance x y l))
         → Moved next ready (w ∷ l)
         (cond t (advance (plus next 1) (ready ++ (w.held ∷ [])) l) (record { next = next; ready = ready; waiting = w ∷ l }))
     go false e later = record { same = λ n. refl; up = le_refl next; level = refl }
     go true e later =
         let more = ready ++ (w.held ∷ []) in
-        let is-next = (and_parts (isNext next w) (ltb (length ready) receiveWindow) e).0 in
-        let o : minus w.number next ≡ 0 = eqb-true (minus w.number next) 0 is-next in
+        let is_next_lem = (and_parts (is_next next w) (ltb (length ready) receive_window) e).0 in
+        let o : minus w.number next ≡ 0 = eqb-true (minus w.number next) 0 is_next_lem in
         let q : w.number ≡ next = omega (arith, a.0, o) in
         let z : plus next 1 ≡ suc next = omega (arith, a.0, q) in
         let i : Moved (plus next 1) more l (advance (plus next 1) more l) = later (plus next 1) more (omega (arith, a.0, q, z)) in
@@ -127,14 +127,14 @@ moved (w ∷ l) next ready a h = go (isNext next w && ltb (length ready) receive
 -- ---- a push
 
 -- a number of the window that waits, by its offset
-held-waits : (next sn : ℕ) (l : List Waiting) → next ≤ 2 ^ 31 → sn < 2 ^ 31 → Under (2 ^ 31) l
-    → is_held (waitingOffset next) (minus sn next) l ≡ true → waits l sn ≡ true
+held_waits : (next sn : ℕ) (l : List Waiting) → next ≤ 2 ^ 31 → sn < 2 ^ 31 → Under (2 ^ 31) l
+    → is_held (waiting_offset next) (minus sn next) l ≡ true → waits l sn ≡ true
 unfolding is_held occurs
-held-waits next sn [] x y a e = absurd (false≢true e)
-held-waits next sn (w ∷ l) x y a e = go (eqb (minus w.number next) (minus sn next)) refl e (held-waits next sn l x y a.1)
+held_waits next sn [] x y a e = absurd (false≢true e)
+held_waits next sn (w ∷ l) x y a e = go (eqb (minus w.number next) (minus sn next)) refl e (held_waits next sn l x y a.1)
   where
-    go : (t : Bool) → eqb (minus w.number next) (minus sn next) ≡ t → (t || is_held (waitingOffset next) (minus sn next) l) ≡ true
-        → (is_held (waitingOffset next) (minus sn next) l ≡ true → waits l sn ≡ true)
+    go : (t : Bool) → eqb (minus w.number next) (minus sn next) ≡ t → (t || is_held (waiting_offset next) (minus sn next) l) ≡ true
+        → (is_held (waiting_offset next) (minus sn next) l ≡ true → waits l sn ≡ true)
         → (eqb sn w.number || waits l sn) ≡ true
     go true q e later =
         let p : sn ≡ w.number = omega (arith, a.0, eqb-true (minus w.number next) (minus sn next) q) in
@@ -142,13 +142,13 @@ held-waits next sn (w ∷ l) x y a e = go (eqb (minus w.number next) (minus sn n
     go false q e later = or_right (eqb sn w.number) (waits l sn) (later e)
 
 -- one put between the others
-between-occurs : (n k : ℕ) {l m : List ℕ} → Between k l m → occurs n m ≡ (eqb n k || occurs n l)
+between_occurs : (n k : ℕ) {l m : List ℕ} → Between k l m → occurs n m ≡ (eqb n k || occurs n l)
 unfolding occurs
-between-occurs n k b =
+between_occurs n k b =
     ap (occurs n) b.is
-    ∙ occurs-append n b.front (k ∷ b.back)
+    ∙ occurs_append n b.front (k ∷ b.back)
     ∙ swap (occurs n b.front) (eqb n k) (occurs n b.back)
-    ∙ ap (λ (x : Bool). eqb n k || x) (sym (ap (occurs n) b.was ∙ occurs-append n b.front b.back))
+    ∙ ap (λ (x : Bool). eqb n k || x) (sym (ap (occurs n) b.was ∙ occurs_append n b.front b.back))
   where
     swap : (x y z : Bool) → (x || (y || z)) ≡ (y || (x || z))
     swap true true z = refl
@@ -162,11 +162,11 @@ pub record Took (N : ℕ) (r r' : Receiving) : Type 0 where
   pub up : r.next ≤ r'.next
   pub level : length r'.ready + r.next ≡ length r.ready + r'.next
 
-pub took-none : (N : ℕ) (r : Receiving) → Known N r → Took N r r
-took-none N r k = record { preserves = λ n h. h; knows = k; up = le_refl r.next; level = refl }
+pub took_none : (N : ℕ) (r : Receiving) → Known N r → Took N r r
+took_none N r k = record { preserves = λ n h. h; knows = k; up = le_refl r.next; level = refl }
 
-pub took-then : (N : ℕ) (r r' r'' : Receiving) → Took N r r' → Took N r' r'' → Took N r r''
-took-then N r r' r'' x y =
+pub took_then : (N : ℕ) (r r' r'' : Receiving) → Took N r r' → Took N r' r'' → Took N r r''
+took_then N r r' r'' x y =
     record {
       preserves = λ n h. y.preserves n (x.preserves n h);
       knows = y.knows;
@@ -176,7 +176,7 @@ took-then N r r' r'' x y =
 
 pub record PushedIn (N : ℕ) (r : Receiving) (sn : ℕ) (r' : Receiving) : Type 0 where
   pub took : Took N r r'
-  pub gets : inWindow r sn ≡ true → has r' sn ≡ true
+  pub gets : in_window r sn ≡ true → has r' sn ≡ true
 
 module _ (m N : ℕ) (top : N ≤ 2 ^ 30) where
   wide : (l : List Waiting) → Under N l → Under (2 ^ 31) l
@@ -190,19 +190,19 @@ module _ (m N : ℕ) (top : N ≤ 2 ^ 30) where
     sn = g.header.sn
 
     abbrev y : Receiver
-    y = withAcks (noted x.half g.header) x
+    y = with_acks (noted x.half g.header) x
 
     next : x.half.next ≤ N
     next = known_next N x.half k
 
     small : Under N x.half.waiting
-    small = known-waiting N x.half k
+    small = known_waiting N x.half k
 
     -- nothing kept, whatever is noted
     stays : Moved r.next r.ready r.waiting (advance r.next r.ready r.waiting)
     stays = moved r.waiting r.next r.ready (wide r.waiting small) (omega (arith, next))
 
-    left : (l : List Ack) → Took N r (movedUpIn (withAcks l x)).half
+    left : (l : List Ack) → Took N r (moved_up_in (with_acks l x)).half
     left l = record {
       preserves = λ n e. stays.same n ∙ e;
       knows = λ n e. k n (sym (stays.same n) ∙ e);
@@ -212,26 +212,26 @@ module _ (m N : ℕ) (top : N ≤ 2 ^ 30) where
 
     -- it is kept as v
     module _ (v : Waiting) (numbered : v.number ≡ g.header.sn)
-        (new : is_held (waitingOffset x.half.next) (minus v.number x.half.next) x.half.waiting ≡ false) where
+        (new : is_held (waiting_offset x.half.next) (minus v.number x.half.next) x.half.waiting ≡ false) where
       abbrev more : List Waiting
-      more = insert (waitingOffset x.half.next) v x.half.waiting
+      more = insert (waiting_offset x.half.next) v x.half.waiting
 
       put : Between v r.waiting more
-      put = insert-between (waitingOffset r.next) v r.waiting new
+      put = insert_between (waiting_offset r.next) v r.waiting new
 
       grows : Moved r.next r.ready more (advance r.next r.ready more)
       grows =
-          moved more r.next r.ready (wide more (all-between (λ (w : Waiting). w.number < N) put small (rw numbered h)))
+          moved more r.next r.ready (wide more (all_between (λ (w : Waiting). w.number < N) put small (rw numbered h)))
           (omega (arith, next))
 
-      had : (n : ℕ) → hasIn (advance r.next r.ready more).next (advance r.next r.ready more).waiting n
+      had : (n : ℕ) → has_in (advance r.next r.ready more).next (advance r.next r.ready more).waiting n
           ≡ (ltb n r.next || (eqb n sn || waits r.waiting n))
       had n =
           grows.same n
-          ∙ ap (λ (t : Bool). ltb n r.next || t) (between-occurs n v.number (between-map (λ (w : Waiting). w.number) put))
+          ∙ ap (λ (t : Bool). ltb n r.next || t) (between_occurs n v.number (between_map (λ (w : Waiting). w.number) put))
           ∙ ap (λ (k : ℕ). ltb n r.next || (eqb n k || waits r.waiting n)) numbered
 
-      one_kept : (l : List Ack) → PushedIn N r sn (movedUp (withLists (withNotes r l r.tell) r.next r.ready more))
+      one_kept : (l : List Ack) → PushedIn N r sn (moved_up (with_lists (with_notes r l r.tell) r.next r.ready more))
       one_kept l = record {
         took = record {
           preserves = λ n e. had n ∙ still n (or-true (ltb n r.next) (waits r.waiting n) e);
@@ -255,21 +255,21 @@ module _ (m N : ℕ) (top : N ≤ 2 ^ 30) where
           less n false q e = k n e
 
     -- A PUSH of a known number
-    pub push-had : PushedIn N x.half g.header.sn (pushed m x g).half
+    pub push_had : PushedIn N x.half g.header.sn (pushed m x g).half
     unfolding pushed
-    push-had = go (inWindow r sn) refl (isBefore sn r.next) refl isWaiting refl
+    push_had = go (in_window r sn) refl (is_before sn r.next) refl is_waiting refl
       where
         v : Waiting
         v = record {
           number = g.header.sn;
-          held = record { slot = lowestFree (slots (receiveHeld x.half)) receiveSlots; len = g.header.len; fragment = g.header.frg };
+          held = record { slot = lowest_free (slots (receive_held x.half)) receive_slots; len = g.header.len; fragment = g.header.frg };
         }
 
-        isWaiting : Bool
-        isWaiting = is_held (waitingOffset x.half.next) (minus g.header.sn x.half.next) x.half.waiting
+        is_waiting : Bool
+        is_waiting = is_held (waiting_offset x.half.next) (minus g.header.sn x.half.next) x.half.waiting
 
-        go : (a : Bool) → inWindow r sn ≡ a → (b : Bool) → isBefore sn r.next ≡ b → (d : Bool) → isWaiting ≡ d
-            → PushedIn N r sn (movedUpIn (cond a (cond (not b && not d) (kept m y g) y) x)).half
+        go : (a : Bool) → in_window r sn ≡ a → (b : Bool) → is_before sn r.next ≡ b → (d : Bool) → is_waiting ≡ d
+            → PushedIn N r sn (moved_up_in (cond a (cond (not b && not d) (kept m y g) y) x)).half
         go false e b f d q = record { took = left r.acks; gets = λ t. absurd (false≢true (sym e ∙ t)) }
         go true e true f d q = record {
           took = left (noted r g.header);
@@ -283,7 +283,7 @@ module _ (m N : ℕ) (top : N ≤ 2 ^ 30) where
           gets = λ t.
               stays.same sn
               ∙ or_right (ltb sn r.next) (waits r.waiting sn)
-              (held-waits r.next sn r.waiting (omega (arith, next)) (omega arith) (wide r.waiting small) q);
+              (held_waits r.next sn r.waiting (omega (arith, next)) (omega arith) (wide r.waiting small) q);
         }
         go true e false f false q = one_kept v refl q (noted r g.header)
 
@@ -302,33 +302,33 @@ pub record TookAll (N : ℕ) (r r' : Receiving) : Type 0 where
   pub acks : All (HasAck r) r.acks → All (HasAck r') r'.acks
   pub more : length r.acks ≤ length r'.acks
 
-pub took-all-then : (N : ℕ) (r r' r'' : Receiving) → TookAll N r r' → TookAll N r' r'' → TookAll N r r''
-took-all-then N r r' r'' x y =
-    record { took = took-then N r r' r'' x.took y.took; acks = λ a. y.acks (x.acks a); more = omega (arith, x.more, y.more) }
+pub took_all_then : (N : ℕ) (r r' r'' : Receiving) → TookAll N r r' → TookAll N r' r'' → TookAll N r r''
+took_all_then N r r' r'' x y =
+    record { took = took_then N r r' r'' x.took y.took; acks = λ a. y.acks (x.acks a); more = omega (arith, x.more, y.more) }
 
-pub took-all-none : (N : ℕ) (r : Receiving) → Known N r → TookAll N r r
-took-all-none N r k = record { took = took-none N r k; acks = λ a. a; more = le_refl (length r.acks) }
+pub took_all_none : (N : ℕ) (r : Receiving) → Known N r → TookAll N r r
+took_all_none N r k = record { took = took_none N r k; acks = λ a. a; more = le_refl (length r.acks) }
 
 -- the acks after a push
-pushed-acks : (m : ℕ) (x : Receiver) (g : Segment) →
-    (pushed m x g).half.acks ≡ cond (inWindow x.half g.header.sn) (noted x.half g.header) x.half.acks
+pushed_acks : (m : ℕ) (x : Receiver) (g : Segment) →
+    (pushed m x g).half.acks ≡ cond (in_window x.half g.header.sn) (noted x.half g.header) x.half.acks
 unfolding pushed
-pushed-acks m x g = go (inWindow x.half g.header.sn) (isNew x.half g.header.sn)
+pushed_acks m x g = go (in_window x.half g.header.sn) (is_new x.half g.header.sn)
   where
     y : Receiver
-    y = withAcks (noted x.half g.header) x
+    y = with_acks (noted x.half g.header) x
 
-    go : (a b : Bool) → (movedUpIn (cond a (cond b (kept m y g) y) x)).half.acks ≡ cond a (noted x.half g.header) x.half.acks
+    go : (a b : Bool) → (moved_up_in (cond a (cond b (kept m y g) y) x)).half.acks ≡ cond a (noted x.half g.header) x.half.acks
     go true true = refl
     go true false = refl
     go false b = refl
 
 module _ (m N : ℕ) (top : N ≤ 2 ^ 30) where
-  push-all : (x : Receiver) (g : Segment) → Known N x.half → g.header.sn < N → TookAll N x.half (pushed m x g).half
-  push-all x g k h = record {
+  push_all : (x : Receiver) (g : Segment) → Known N x.half → g.header.sn < N → TookAll N x.half (pushed m x g).half
+  push_all x g k h = record {
     took = p.took;
-    acks = λ a. rw (pushed-acks m x g) (go (inWindow x.half g.header.sn) refl (ltb (length x.half.acks) acksMost) (old a));
-    more = rw (pushed-acks m x g) (longer (inWindow x.half g.header.sn) (ltb (length x.half.acks) acksMost));
+    acks = λ a. rw (pushed_acks m x g) (go (in_window x.half g.header.sn) refl (ltb (length x.half.acks) acks_most) (old a));
+    more = rw (pushed_acks m x g) (longer (in_window x.half g.header.sn) (ltb (length x.half.acks) acks_most));
   }
     where
       r' : Receiving
@@ -338,12 +338,12 @@ module _ (m N : ℕ) (top : N ≤ 2 ^ 30) where
       new = record { sn = g.header.sn; ts = g.header.ts }
 
       p : PushedIn N x.half g.header.sn (pushed m x g).half
-      p = push-had m N top x g k h
+      p = push_had m N top x g k h
 
       old : All (HasAck x.half) x.half.acks → All (HasAck r') x.half.acks
       old = all_weaker (HasAck x.half) (HasAck r') (λ a i. p.took.preserves a.sn i) x.half.acks
 
-      go : (a : Bool) → inWindow x.half g.header.sn ≡ a → (b : Bool) → All (HasAck r') x.half.acks
+      go : (a : Bool) → in_window x.half g.header.sn ≡ a → (b : Bool) → All (HasAck r') x.half.acks
           → All (HasAck r') (cond a (cond b (x.half.acks ++ (new ∷ [])) x.half.acks) x.half.acks)
       go true e true i = all_append (HasAck r') x.half.acks (new ∷ []) i (p.gets e, tt)
       go true e false i = i
@@ -355,85 +355,85 @@ module _ (m N : ℕ) (top : N ≤ 2 ^ 30) where
       longer true false = le_refl (length x.half.acks)
       longer false b = le_refl (length x.half.acks)
 
-  heard-had : (x : Receiver) (g : Segment) → Known N x.half → Pushes N g → TookAll N x.half (heardByReceiving m x g).half
-  unfolding heardByReceiving
-  heard-had x g k h = go (eqb g.header.cmd push) refl (eqb g.header.cmd windowAsk)
+  heard_had : (x : Receiver) (g : Segment) → Known N x.half → Pushes N g → TookAll N x.half (heard_by_receiving m x g).half
+  unfolding heard_by_receiving
+  heard_had x g k h = go (eqb g.header.cmd push) refl (eqb g.header.cmd window_ask)
     where
       go : (a : Bool) → eqb g.header.cmd push ≡ a → (b : Bool) → TookAll N x.half (cond a (pushed m x g) (cond b (asked x) x)).half
-      go true e b = push-all x g k (h (eqb-true g.header.cmd push e))
+      go true e b = push_all x g k (h (eqb-true g.header.cmd push e))
       go false e true = record {
         took = record { preserves = λ n i. i; knows = k; up = le_refl x.half.next; level = refl };
         acks = λ a. a;
         more = le_refl (length x.half.acks);
       }
-      go false e false = took-all-none N x.half k
+      go false e false = took_all_none N x.half k
 
   -- ALL SEGMENTS OF A DATAGRAM
-  pub all-had : (gs : List Segment) (x : Receiver) → Known N x.half → All (Pushes N) gs
-      → TookAll N x.half (allByReceiving m x gs).half
-  unfolding allByReceiving
-  all-had [] x k h = took-all-none N x.half k
-  all-had (g ∷ gs) x k h =
-      let i = heard-had x g k h.0 in
-      took-all-then N x.half (heardByReceiving m x g).half (allByReceiving m (heardByReceiving m x g) gs).half i
-      (all-had gs (heardByReceiving m x g) i.took.knows h.1)
+  pub all_had : (gs : List Segment) (x : Receiver) → Known N x.half → All (Pushes N) gs
+      → TookAll N x.half (all_by_receiving m x gs).half
+  unfolding all_by_receiving
+  all_had [] x k h = took_all_none N x.half k
+  all_had (g ∷ gs) x k h =
+      let i = heard_had x g k h.0 in
+      took_all_then N x.half (heard_by_receiving m x g).half (all_by_receiving m (heard_by_receiving m x g) gs).half i
+      (all_had gs (heard_by_receiving m x g) i.took.knows h.1)
 
   -- a number not past rcv_nxt is in the window
-  near : (r : Receiving) (u : ℕ) → Known N r → u ≤ r.next → inWindow r u ≡ true
+  near : (r : Receiving) (u : ℕ) → Known N r → u ≤ r.next → in_window r u ≡ true
   near r u k h =
       let a : r.next ≤ N = known_next N r k in
-      let z : plus r.next receiveWindow ≡ r.next + receiveWindow = omega (arith, a) in
-      ap (isBefore u) z
-      ∙ before_small u (r.next + receiveWindow) (omega (arith, a)) (omega (arith, a))
-      ∙ lt-ltb u (r.next + receiveWindow) (omega arith)
+      let z : plus r.next receive_window ≡ r.next + receive_window = omega (arith, a) in
+      ap (is_before u) z
+      ∙ before_small u (r.next + receive_window) (omega (arith, a)) (omega (arith, a))
+      ∙ lt-ltb u (r.next + receive_window) (omega arith)
 
   -- a push not past rcv_nxt: it is had afterwards, and some ack is noted
-  push-in : (x : Receiver) (g : Segment) (u : ℕ) → Known N x.half → Pushes N g → u ≤ x.half.next
+  push_in : (x : Receiver) (g : Segment) (u : ℕ) → Known N x.half → Pushes N g → u ≤ x.half.next
       → g.header.cmd ≡ push → u ≡ g.header.sn
-      → (has (heardByReceiving m x g).half u ≡ true) × (0 < length (heardByReceiving m x g).half.acks)
-  unfolding heardByReceiving
-  push-in x g u k h l e q =
-      let n : inWindow x.half g.header.sn ≡ true = near x.half g.header.sn k (omega (arith, q, l)) in
+      → (has (heard_by_receiving m x g).half u ≡ true) × (0 < length (heard_by_receiving m x g).half.acks)
+  unfolding heard_by_receiving
+  push_in x g u k h l e q =
+      let n : in_window x.half g.header.sn ≡ true = near x.half g.header.sn k (omega (arith, q, l)) in
       rw (eq-eqb g.header.cmd push e) (
-        ap (has (pushed m x g).half) q ∙ (push-had m N top x g k (h e)).gets n,
-        rw (pushed-acks m x g, n) (some (ltb (length x.half.acks) acksMost) refl),
+        ap (has (pushed m x g).half) q ∙ (push_had m N top x g k (h e)).gets n,
+        rw (pushed_acks m x g, n) (some (ltb (length x.half.acks) acks_most) refl),
       )
     where
       new : Ack
       new = record { sn = g.header.sn; ts = g.header.ts }
 
-      some : (b : Bool) → ltb (length x.half.acks) acksMost ≡ b → 0 < length (cond b (x.half.acks ++ (new ∷ [])) x.half.acks)
+      some : (b : Bool) → ltb (length x.half.acks) acks_most ≡ b → 0 < length (cond b (x.half.acks ++ (new ∷ [])) x.half.acks)
       some true f = omega (arith, length-append x.half.acks (new ∷ []))
-      some false f = omega (arith, ltb-false (length x.half.acks) acksMost f)
+      some false f = omega (arith, ltb-false (length x.half.acks) acks_most f)
 
   -- A PUSH NOT PAST RCV_NXT among them
   pub goes_in : (u : ℕ) (gs : List Segment) (x : Receiver) → Known N x.half → All (Pushes N) gs → u ≤ x.half.next
-      → occurs u (pushNumbers gs) ≡ true
-      → (has (allByReceiving m x gs).half u ≡ true) × (0 < length (allByReceiving m x gs).half.acks)
-  unfolding allByReceiving pushNumbers occurs
+      → occurs u (push_numbers gs) ≡ true
+      → (has (all_by_receiving m x gs).half u ≡ true) × (0 < length (all_by_receiving m x gs).half.acks)
+  unfolding all_by_receiving push_numbers occurs
   goes_in u [] x k h l e = absurd (false≢true e)
   goes_in u (g ∷ gs) x k h l e = go (eqb g.header.cmd push) refl e
-      (λ z. goes_in u gs (heardByReceiving m x g) i.took.knows h.1 (omega (arith, l, i.took.up)) z)
+      (λ z. goes_in u gs (heard_by_receiving m x g) i.took.knows h.1 (omega (arith, l, i.took.up)) z)
     where
-      i : TookAll N x.half (heardByReceiving m x g).half
-      i = heard-had x g k h.0
+      i : TookAll N x.half (heard_by_receiving m x g).half
+      i = heard_had x g k h.0
 
-      rest : TookAll N (heardByReceiving m x g).half (allByReceiving m (heardByReceiving m x g) gs).half
-      rest = all-had gs (heardByReceiving m x g) i.took.knows h.1
+      rest : TookAll N (heard_by_receiving m x g).half (all_by_receiving m (heard_by_receiving m x g) gs).half
+      rest = all_had gs (heard_by_receiving m x g) i.took.knows h.1
 
       Gone : Type 0
       Gone =
-          (has (allByReceiving m (heardByReceiving m x g) gs).half u ≡ true)
-          × (0 < length (allByReceiving m (heardByReceiving m x g) gs).half.acks)
+          (has (all_by_receiving m (heard_by_receiving m x g) gs).half u ≡ true)
+          × (0 < length (all_by_receiving m (heard_by_receiving m x g) gs).half.acks)
 
-      go : (t : Bool) → eqb g.header.cmd push ≡ t → occurs u (cond t (g.header.sn ∷ pushNumbers gs) (pushNumbers gs)) ≡ true
-          → (occurs u (pushNumbers gs) ≡ true → Gone) → Gone
+      go : (t : Bool) → eqb g.header.cmd push ≡ t → occurs u (cond t (g.header.sn ∷ push_numbers gs) (push_numbers gs)) ≡ true
+          → (occurs u (push_numbers gs) ≡ true → Gone) → Gone
       go false q e later = later e
       go true q e later = at (eqb u g.header.sn) refl e
         where
-          at : (b : Bool) → eqb u g.header.sn ≡ b → (b || occurs u (pushNumbers gs)) ≡ true → Gone
+          at : (b : Bool) → eqb u g.header.sn ≡ b → (b || occurs u (push_numbers gs)) ≡ true → Gone
           at true f z =
-              let p = push-in x g u k h.0 l (eqb-true g.header.cmd push q) (eqb-true u g.header.sn f) in
+              let p = push_in x g u k h.0 l (eqb-true g.header.cmd push q) (eqb-true u g.header.sn f) in
               (rest.took.preserves u p.0, omega (arith, rest.more, p.1))
           at false f z = later z
 
@@ -444,13 +444,13 @@ pub record ReadOut (r r' : Receiving) : Type 0 where
   pub up : r.next ≤ r'.next
   pub acks : r'.acks ≡ r.acks
 
-pub read-had : (N : ℕ) → N ≤ 2 ^ 30 → (r : Receiving) → Known N r → ReadOut r (afterRead r)
-unfolding afterRead
-read-had N top r k =
+pub read_had : (N : ℕ) → N ≤ 2 ^ 30 → (r : Receiving) → Known N r → ReadOut r (after_read r)
+unfolding after_read
+read_had N top r k =
     let a = known_next N r k in
     let i =
-    moved r.waiting r.next (drop (frontCount r.ready) r.ready)
+    moved r.waiting r.next (drop (front_count r.ready) r.ready)
     (all_weaker (λ (w : Waiting). w.number < N) (λ (w : Waiting). w.number < 2 ^ 31) (λ w h. omega arith) r.waiting
-    (known-waiting N r k))
+    (known_waiting N r k))
     (omega (arith, a)) in
     record { same = i.same; up = i.up; acks = refl }

@@ -14,13 +14,13 @@
 -- Assumes nothing.
 use Rattle.std.specs.Prelude.{List}
 use Rattle.protocol.specs.declared.Settings.{Settings}
-use Rattle.session.specs.Calls.{datagramsBy}
+use Rattle.session.specs.Calls.{datagrams_by}
 use Rattle.demands.specs.Steps.{Endpoint}
 use Rattle.demands.specs.RunLaws.{taken}
 use Rattle.progress.specs.TwoEnds.{
   Move,
-  eventsOfA,
-  eventsOfB,
+  events_of_a,
+  events_of_b,
   MadeBy,
   HeardOnlyEachOther,
   FewSegments,
@@ -28,25 +28,25 @@ use Rattle.progress.specs.TwoEnds.{
   GoodRoundTrip,
   Passed,
 }
-use Rattle.progress.specs.Counting.{few-both, writes-few, fed-made, since-made}
-use Rattle.progress.specs.Moves.{passed-by-pushes}
+use Rattle.progress.specs.Counting.{few_both, writes_few, fed_made, since_made}
+use Rattle.progress.specs.Moves.{passed_by_pushes}
 
-pub one-good-round-trip : (c : Settings) (moves : List Move) (a b a'' : Endpoint)
-    → (of-a : MadeBy c (eventsOfA moves) a) → (of-b : MadeBy c (eventsOfB moves) b)
+pub one_good_round_trip : (c : Settings) (moves : List Move) (a b a'' : Endpoint)
+    → (of_a : MadeBy c (events_of_a moves) a) → (of_b : MadeBy c (events_of_b moves) b)
     → HeardOnlyEachOther moves
-    → FewSegments of-a → FewSegments of-b
-    → ReadUntil9 (eventsOfB moves)
+    → FewSegments of_a → FewSegments of_b
+    → ReadUntil9 (events_of_b moves)
     → GoodRoundTrip c a b a''
     → Passed a.link.flight.una a''.link.flight.una
-one-good-round-trip c moves a b a'' of-a of-b heard few-a few-b read trip =
+one_good_round_trip c moves a b a'' of_a of_b heard few_a few_b read trip =
     let f = trip.there in
     let g = trip.back in
-    let made-a = since-made c (eventsOfA moves) a of-a few-a in
-    let made-b = since-made c (eventsOfB moves) b of-b few-b in
+    let made-a = since_made c (events_of_a moves) a of_a few_a in
+    let made-b = since_made c (events_of_b moves) b of_b few_b in
     let made-b' =
-    fed-made c (taken of-b).range of-b.conv f.arrivals _ b trip.b' f.events f.hears f.fits.1 made-b.made in
-    passed-by-pushes c moves a b a'' of-a of-b heard read trip
-    (few-both c (datagramsBy (eventsOfA moves)) f.writes made-a.few
-    (writes-few c (taken of-a).range of-a.conv _ a trip.a' f.call f.writes f.fits.0 f.flushes made-a.made))
-    (few-both c (datagramsBy (eventsOfB moves)) g.writes made-b.few
-    (writes-few c (taken of-b).range of-b.conv _ trip.b' trip.b'' g.call g.writes g.fits.0 g.flushes made-b'))
+    fed_made c (taken of_b).range of_b.conv f.arrivals _ b trip.b' f.events f.hears f.fits.1 made-b.made in
+    passed_by_pushes c moves a b a'' of_a of_b heard read trip
+    (few_both c (datagrams_by (events_of_a moves)) f.writes made-a.few
+    (writes_few c (taken of_a).range of_a.conv _ a trip.a' f.call f.writes f.fits.0 f.flushes made-a.made))
+    (few_both c (datagrams_by (events_of_b moves)) g.writes made-b.few
+    (writes_few c (taken of_b).range of_b.conv _ trip.b' trip.b'' g.call g.writes g.fits.0 g.flushes made-b'))

@@ -3,18 +3,18 @@
 use Rattle.std.specs.Prelude.{◌≡◌, refl, ◌⊎◌, Bool, true, false, ◌||◌, ◌&&◌, ℕ, ◌^◌, ◌<◌, leb, ltb}
 use Rattle.std.proofs.Common.{◌∙◌, inl, inr, arith, ltb-true, ltb-false, lt-ltb, le-ltb, le-leb}
 use Rattle.std.proofs.lemmas.Bool.{lt-leb}
-use Rattle.protocol.specs.Serial.{minus, isBefore, isAfter}
-use Rattle.protocol.specs.SerialLaws.{before-test, after_test}
+use Rattle.protocol.specs.Serial.{minus, is_before, is_after}
+use Rattle.protocol.specs.SerialLaws.{before_test, after_test}
 use Rattle.delivery.specs.FedLaws.{or-true, or_right}
 
-pub before_small : (a b : ℕ) → a < 2 ^ 31 → b < 2 ^ 31 → isBefore a b ≡ ltb a b
-before_small a b x y = before-test a b ∙ go (ltb a b) refl
+pub before_small : (a b : ℕ) → a < 2 ^ 31 → b < 2 ^ 31 → is_before a b ≡ ltb a b
+before_small a b x y = before_test a b ∙ go (ltb a b) refl
   where
     go : (t : Bool) → ltb a b ≡ t → leb (2 ^ 31) (minus a b) ≡ t
     go true e = le-leb (2 ^ 31) (minus a b) (omega (arith, ltb-true a b e))
     go false e = lt-leb (2 ^ 31) (minus a b) (omega (arith, ltb-false a b e))
 
-pub after_small : (a b : ℕ) → a < 2 ^ 31 → b < 2 ^ 31 → isAfter a b ≡ ltb b a
+pub after_small : (a b : ℕ) → a < 2 ^ 31 → b < 2 ^ 31 → is_after a b ≡ ltb b a
 after_small a b x y = after_test a b ∙ go (ltb b a) refl (ltb a b) refl
   where
     no : (s : Bool) → (s && false) ≡ false
@@ -31,8 +31,8 @@ after_small a b x y = after_test a b ∙ go (ltb b a) refl (ltb a b) refl
 pub or_left : (a b : Bool) → a ≡ true → (a || b) ≡ true
 or_left a b e = rw e
 
-pub or-both : (a b a' b' : Bool) → (a ≡ true → a' ≡ true) → (b ≡ true → b' ≡ true) → (a || b) ≡ true → (a' || b') ≡ true
-or-both a b a' b' f g e = go (or-true a b e)
+pub or_both : (a b a' b' : Bool) → (a ≡ true → a' ≡ true) → (b ≡ true → b' ≡ true) → (a || b) ≡ true → (a' || b') ≡ true
+or_both a b a' b' f g e = go (or-true a b e)
   where
     go : (a ≡ true) ⊎ (b ≡ true) → (a' || b') ≡ true
     go (inl x) = or_left a' b' (f x)

@@ -13,33 +13,33 @@ use Rattle.answers.specs.declared.Time.TheVariants as time
 use Rattle.promises.specs.Answers.{
   Accepts,
   Counts,
-  countOutcome,
-  updateAnswer,
-  timeOutcome,
-  outcomeNumber,
-  answerNumber,
-  countNumber,
-  updateNumber,
-  timeNumber,
+  count_outcome,
+  update_answer,
+  time_outcome,
+  outcome_number,
+  answer_number,
+  count_number,
+  update_number,
+  time_number,
 }
 
-pub accepts-number : {A : Type 0} (a : Answer) (o : Outcome A) → Accepts a o → answerNumber a ≡ outcomeNumber o
-accepts-number a (refused r) e = ap answerNumber e
-accepts-number a (done x) e = ap answerNumber e
+pub accepts_number : {A : Type 0} (a : Answer) (o : Outcome A) → Accepts a o → answer_number a ≡ outcome_number o
+accepts_number a (refused r) e = ap answer_number e
+accepts_number a (done x) e = ap answer_number e
 
-pub counts-number : {A : Type 0} (size : A → ℕ) (a : Count) (o : Outcome A) → Counts size a o → countNumber a ≡ outcomeNumber o
-counts-number size a (refused r) e = ap countNumber e
-counts-number size a (done x) e = ap countNumber e
+pub counts_number : {A : Type 0} (size : A → ℕ) (a : Count) (o : Outcome A) → Counts size a o → count_number a ≡ outcome_number o
+counts_number size a (refused r) e = ap count_number e
+counts_number size a (done x) e = ap count_number e
 
-pub update-number : (a : Update) (o : Outcome Updates) → a ≡ updateAnswer o → updateNumber a ≡ outcomeNumber o
-update-number a (refused r) e = ap updateNumber e
-update-number a (done (waits s)) e = ap updateNumber e
-update-number a (done (flushes x)) e = ap updateNumber e
+pub update_number_lem : (a : Update) (o : Outcome Updates) → a ≡ update_answer o → update_number a ≡ outcome_number o
+update_number_lem a (refused r) e = ap update_number e
+update_number_lem a (done (waits s)) e = ap update_number e
+update_number_lem a (done (flushes x)) e = ap update_number e
 
-pub count-number : (a : Count) (o : Outcome ℕ) → countOutcome a ≡ o → countNumber a ≡ outcomeNumber o
-count-number (count.Of n) o e = ap outcomeNumber e
-count-number (count.Refused r) o e = ap outcomeNumber e
+pub count_number_lem : (a : Count) (o : Outcome ℕ) → count_outcome a ≡ o → count_number a ≡ outcome_number o
+count_number_lem (count.Of n) o e = ap outcome_number e
+count_number_lem (count.Refused r) o e = ap outcome_number e
 
-pub time-number : (a : Time) (o : Outcome ℕ) → timeOutcome a ≡ o → timeNumber a ≡ outcomeNumber o
-time-number (time.At t) o e = ap outcomeNumber e
-time-number (time.Refused r) o e = ap outcomeNumber e
+pub time_number_lem : (a : Time) (o : Outcome ℕ) → time_outcome a ≡ o → time_number a ≡ outcome_number o
+time_number_lem (time.At t) o e = ap outcome_number e
+time_number_lem (time.Refused r) o e = ap outcome_number e

@@ -6,7 +6,7 @@ use Rattle.protocol.specs.declared.Refusal.TheVariants.{NoMessage}
 use Rattle.lists.specs.declared.Held.{Held}
 use Rattle.session.specs.State.{Outcome, refused, done}
 use Rattle.session.specs.Flushing.{Flushed}
-use Rattle.session.specs.Reading.{readable, frontCount, length_of}
+use Rattle.session.specs.Reading.{readable, front_count, length_of}
 use Rattle.session.specs.Updating.{Updates, waits, flushes}
 use Rattle.answers.specs.declared.Answer.{Answer}
 use Rattle.answers.specs.declared.Answer.TheVariants as answer
@@ -28,44 +28,44 @@ Counts size a (refused r) = a ≡ count.Refused r
 Counts size a (done x) = a ≡ count.Of (size x)
 
 -- a count as an outcome
-abbrev pub countOutcome : Count → Outcome ℕ
-countOutcome (count.Of n) = done n
-countOutcome (count.Refused r) = refused r
+abbrev pub count_outcome : Count → Outcome ℕ
+count_outcome (count.Of n) = done n
+count_outcome (count.Refused r) = refused r
 
 -- that an update waited, the number of its datagrams, or the refusal
-abbrev pub updateAnswer : Outcome Updates → Update
-updateAnswer (refused r) = update.Refused r
-updateAnswer (done (waits s)) = update.Waited
-updateAnswer (done (flushes x)) = update.Wrote (length x.datagrams)
+abbrev pub update_answer : Outcome Updates → Update
+update_answer (refused r) = update.Refused r
+update_answer (done (waits s)) = update.Waited
+update_answer (done (flushes x)) = update.Wrote (length x.datagrams)
 
 -- the time that a check names, or the refusal
-abbrev pub timeOutcome : Time → Outcome ℕ
-timeOutcome (time.At t) = done t
-timeOutcome (time.Refused r) = refused r
+abbrev pub time_outcome : Time → Outcome ℕ
+time_outcome (time.At t) = done t
+time_outcome (time.Refused r) = refused r
 
 -- the size of the message at the front of what is ready
 unfoldable pub size_of : List Held → Outcome ℕ
-size_of ready = cond (readable ready) (done (length_of (take (frontCount ready) ready))) (refused NoMessage)
+size_of ready = cond (readable ready) (done (length_of (take (front_count ready) ready))) (refused NoMessage)
 
 -- ---- by number: that of the refusal in document 01, and 0, which no refusal has, where the call is done
 
-abbrev pub outcomeNumber : {A : Type 0} → Outcome A → ℕ
-outcomeNumber (refused r) = number_of r
-outcomeNumber (done x) = 0
+abbrev pub outcome_number : {A : Type 0} → Outcome A → ℕ
+outcome_number (refused r) = number_of r
+outcome_number (done x) = 0
 
-abbrev pub answerNumber : Answer → ℕ
-answerNumber (answer.Refused r) = number_of r
-answerNumber answer.Accepted = 0
+abbrev pub answer_number : Answer → ℕ
+answer_number (answer.Refused r) = number_of r
+answer_number answer.Accepted = 0
 
-abbrev pub countNumber : Count → ℕ
-countNumber (count.Refused r) = number_of r
-countNumber (count.Of n) = 0
+abbrev pub count_number : Count → ℕ
+count_number (count.Refused r) = number_of r
+count_number (count.Of n) = 0
 
-abbrev pub updateNumber : Update → ℕ
-updateNumber (update.Refused r) = number_of r
-updateNumber (update.Wrote n) = 0
-updateNumber update.Waited = 0
+abbrev pub update_number : Update → ℕ
+update_number (update.Refused r) = number_of r
+update_number (update.Wrote n) = 0
+update_number update.Waited = 0
 
-abbrev pub timeNumber : Time → ℕ
-timeNumber (time.Refused r) = number_of r
-timeNumber (time.At t) = 0
+abbrev pub time_number : Time → ℕ
+time_number (time.Refused r) = number_of r
+time_number (time.At t) = 0

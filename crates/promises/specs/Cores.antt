@@ -9,7 +9,7 @@ use Rattle.lists.specs.declared.Sent.{Sent}
 use Rattle.session.specs.State.{State, Outcome, refused, done}
 use Rattle.session.specs.Sending.{Sends}
 use Rattle.session.specs.Input.{Took}
-use Rattle.session.specs.Flushing.{Flushed, bytesOfSegments}
+use Rattle.session.specs.Flushing.{Flushed, bytes_of_segments}
 use Rattle.session.specs.Reading.{Reads}
 use Rattle.session.specs.Updating.{Updates, waits, flushes}
 use Rattle.packing.specs.Packers.{Output}
@@ -19,15 +19,15 @@ use Rattle.answers.specs.declared.Count.{Count}
 use Rattle.answers.specs.declared.Count.TheVariants as count
 use Rattle.answers.specs.declared.Update.{Update}
 use Rattle.answers.specs.declared.Update.TheVariants as update
-use Rattle.control.specs.Views.{state_of, countsFit}
+use Rattle.control.specs.Views.{state_of, counts_fit}
 use Rattle.control.specs.declared.Link.{Link}
-use Rattle.promises.specs.Parts.{outstandingSlots}
+use Rattle.promises.specs.Parts.{outstanding_slots}
 
 -- ---- opening: the very block where it is refused; else one of this state, whatever the lent parts hold
 
 pub record Opened (s : State) (a : Answer) (l' : Link) : Type 0 where
   pub answer : a ≡ answer.Accepted
-  pub counts : countsFit l' ≡ true
+  pub counts : counts_fit l' ≡ true
   pub state : (records : List Record) (acks : List ℕ) → state_of l' records acks ≡ s
 
 abbrev pub OpenCore : Outcome State → Link → Answer → Link → Type 0
@@ -38,9 +38,9 @@ OpenCore (done s) l a l' = Opened s a l'
 
 pub record Queued (x : Sends) (l : Link) (records : List Record) (acks : List ℕ) (a : Answer) (l' : Link) (pool' : List ℕ) : Type 0 where
   pub answer : a ≡ answer.Accepted
-  pub counts : countsFit l' ≡ true
+  pub counts : counts_fit l' ≡ true
   pub state : state_of l' records acks ≡ x.state
-  pub slots : outstandingSlots l' ≡ outstandingSlots l
+  pub slots : outstanding_slots l' ≡ outstanding_slots l
   pub pool : pool' ≡ x.pool
 
 abbrev pub SendCore : Outcome Sends → Link → List Record → List ℕ → List ℕ → Answer → Link → List ℕ → Type 0
@@ -68,12 +68,12 @@ pub record PutsAll (l' : Link) (b : PutBack) : Type 0 where
 -- a datagram accepted: the state and the pool of the definition; the ack list is as long as it was, and as it was behind its pairs
 pub record TookIn (x : Took) (acks : List ℕ) (a : Answer) (l' : Link) (b : PutBack) (pool' acks' : List ℕ) : Type 0 where
   pub answer : a ≡ answer.Accepted
-  pub counts : countsFit l' ≡ true
+  pub counts : counts_fit l' ≡ true
   pub state : state_of l' b.records acks' ≡ x.state
   pub puts : PutsAll l' b
   pub pool : pool' ≡ x.pool
-  pub ack-length : length acks' ≡ length acks
-  pub ack-rest : drop (2 * l'.arrival.acks) acks' ≡ drop (2 * l'.arrival.acks) acks
+  pub ack_length_lem : length acks' ≡ length acks
+  pub ack_rest_lem : drop (2 * l'.arrival.acks) acks' ≡ drop (2 * l'.arrival.acks) acks
 
 -- refused: the number alone, the very block, pool and ack list
 pub record TookNothing (r : Refusal) (l : Link) (pool acks : List ℕ) (a : Answer) (l' : Link) (b : PutBack) (pool' acks' : List ℕ) : Type 0
@@ -81,8 +81,8 @@ pub record TookNothing (r : Refusal) (l : Link) (pool acks : List ℕ) (a : Answ
     pub answer : a ≡ answer.Refused r
     pub link : l' ≡ l
     pub puts : PutsNothing b
-    pub pool-same : pool' ≡ pool
-    pub acks-same : acks' ≡ acks
+    pub pool_same : pool' ≡ pool
+    pub acks_same : acks' ≡ acks
 
 abbrev pub InputCore : Outcome Took → Link → List ℕ → List ℕ → Answer → Link → PutBack → List ℕ → List ℕ → Type 0
 InputCore (refused r) l pool acks a l' b pool' acks' = TookNothing r l pool acks a l' b pool' acks'
@@ -98,10 +98,10 @@ PutsSent before after l' b = PutsAll l' b ⊎ (PutsNothing b × (after ≡ befor
 pub record Flushes (before : List Sent) (x : Flushed) (acks out lengths : List ℕ) (a : Count) (l' : Link) (b : PutBack)
     (out' lengths' : List ℕ) : Type 0 where
   pub answer : a ≡ count.Of (length x.datagrams)
-  pub counts : countsFit l' ≡ true
+  pub counts : counts_fit l' ≡ true
   pub state : state_of l' b.records acks ≡ x.state
   pub puts : PutsSent before x.state.sending.outstanding l' b
-  pub output : Output (map bytesOfSegments x.datagrams) out lengths (length x.datagrams) out' lengths'
+  pub output : Output (map bytes_of_segments x.datagrams) out lengths (length x.datagrams) out' lengths'
 
 -- refused: nothing is written
 pub record NoFlush (r : Refusal) (l : Link) (out lengths : List ℕ) (a : Count) (l' : Link) (b : PutBack) (out' lengths' : List ℕ) : Type 0
@@ -124,9 +124,9 @@ FlushCore (done x) l records acks out lengths a l' b out' lengths' =
 pub record Waits (s : State) (l : Link) (records : List Record) (acks out lengths : List ℕ)
     (a : Update) (l' : Link) (b : PutBack) (out' lengths' : List ℕ) : Type 0 where
   pub answer : a ≡ update.Waited
-  pub counts : countsFit l' ≡ true
+  pub counts : counts_fit l' ≡ true
   pub state : state_of l' records acks ≡ s
-  pub slots : outstandingSlots l' ≡ outstandingSlots l
+  pub slots : outstanding_slots l' ≡ outstanding_slots l
   pub puts : PutsNothing b
   pub output : out' ≡ out
   pub sizes : lengths' ≡ lengths
@@ -146,9 +146,9 @@ UpdateCore (done (flushes x)) l records acks out lengths a l' b out' lengths' =
 pub record ReadIt (x : Reads) (l : Link) (records : List Record) (acks buffer : List ℕ) (a : Count) (l' : Link) (buffer' : List ℕ) : Type 0
   where
     pub answer : a ≡ count.Of (length x.bytes)
-    pub counts : countsFit l' ≡ true
+    pub counts : counts_fit l' ≡ true
     pub state : state_of l' records acks ≡ x.state
-    pub slots : outstandingSlots l' ≡ outstandingSlots l
+    pub slots : outstanding_slots l' ≡ outstanding_slots l
     pub bytes : buffer' ≡ sets buffer 0 x.bytes
 
 abbrev pub ReadCore : Outcome Reads → Link → List Record → List ℕ → List ℕ → Count → Link → List ℕ → Type 0

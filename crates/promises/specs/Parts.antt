@@ -1,18 +1,18 @@
 -- A control block with its lent parts, and the state that they stand for.
 -- Assumes nothing.
 use Rattle.std.specs.Prelude.{◌≡◌, Bool, true, List, ℕ, length, take}
-use Rattle.protocol.specs.Protocol.{sendSlots}
+use Rattle.protocol.specs.Protocol.{send_slots}
 use Rattle.timing.specs.declared.Record.{Record}
 use Rattle.sizes.specs.declared.Lengths.{Lengths}
 use Rattle.session.specs.State.{State}
-use Rattle.control.specs.Views.{state_of, countsFit, blockValid}
+use Rattle.control.specs.Views.{state_of, counts_fit, block_valid}
 use Rattle.control.specs.declared.Link.{Link}
-use Rattle.records.specs.Tables.{slotsIn, gathered}
+use Rattle.records.specs.Tables.{slots_in, gathered}
 
 -- what is lent to every call: the two pools, the table of records, and the ack list
 pub record Parts : Type 0 where
-  pub sendPool : List ℕ
-  pub receivePool : List ℕ
+  pub send_pool : List ℕ
+  pub receive_pool : List ℕ
   pub table : List Record
   pub acks : List ℕ
 
@@ -22,41 +22,41 @@ pub record FlushParts : Type 0 where
   pub lengths : List ℕ
 
 -- the lengths of the parts, with that of the table by itself
-abbrev pub lentLengths : ℕ → List ℕ → List ℕ → List ℕ → Lengths
-lentLengths table sendPool receivePool acks =
-    record { send = length sendPool; receive = length receivePool; table = table; acks = length acks }
+abbrev pub lent_lengths : ℕ → List ℕ → List ℕ → List ℕ → Lengths
+lent_lengths table send_pool receive_pool acks =
+    record { send = length send_pool; receive = length receive_pool; table = table; acks = length acks }
 
-abbrev pub lengthsOf : Parts → Lengths
-lengthsOf p = lentLengths (length p.table) p.sendPool p.receivePool p.acks
+abbrev pub lengths_of : Parts → Lengths
+lengths_of p = lent_lengths (length p.table) p.send_pool p.receive_pool p.acks
 
 -- what is lent to a call, by the contents of its slices
 abbrev pub parts_of : List ℕ → List ℕ → List Record → List ℕ → Parts
-parts_of sendPool receivePool table acks = record { sendPool = sendPool; receivePool = receivePool; table = table; acks = acks }
+parts_of send_pool receive_pool table acks = record { send_pool = send_pool; receive_pool = receive_pool; table = table; acks = acks }
 
-abbrev pub flushPartsOf : List ℕ → List ℕ → FlushParts
-flushPartsOf output lengths = record { output = output; lengths = lengths }
+abbrev pub flush_parts_of : List ℕ → List ℕ → FlushParts
+flush_parts_of output lengths = record { output = output; lengths = lengths }
 
 -- the slots of the outstanding segments
-abbrev pub outstandingSlots : Link → List ℕ
-outstandingSlots l = slotsIn l.outstanding l.flight.outstanding
+abbrev pub outstanding_slots : Link → List ℕ
+outstanding_slots l = slots_in l.outstanding l.flight.outstanding
 
 -- the records of the outstanding segments, in their order; the table's first 128 records are looked at
-abbrev pub recordsOf : Link → Parts → List Record
-recordsOf l p = gathered (take sendSlots p.table) (outstandingSlots l)
+abbrev pub records_of : Link → Parts → List Record
+records_of l p = gathered (take send_slots p.table) (outstanding_slots l)
 
 -- the state of a block with its parts
-abbrev pub stateIn : Link → Parts → State
-stateIn l p = state_of l (recordsOf l p) p.acks
+abbrev pub state_in : Link → Parts → State
+state_in l p = state_of l (records_of l p) p.acks
 
 -- the block is one that this link makes
-abbrev pub isMade : Link → Parts → Bool
-isMade l p = blockValid l (recordsOf l p) p.acks
+abbrev pub is_made : Link → Parts → Bool
+is_made l p = block_valid l (records_of l p) p.acks
 
 -- the block stands for a state: its counts are within the arrays, and its state is this one. Nothing is said of what is not state:
 -- entries past a count, and which value other than 0 a set flag has
 pub record Stands (l : Link) (p : Parts) (s : State) : Type 0 where
-  pub counts : countsFit l ≡ true
-  pub state : stateIn l p ≡ s
+  pub counts : counts_fit l ≡ true
+  pub state : state_in l p ≡ s
 
 -- a refused call: the very block, and every lent byte and record as it was
 pub record Unchanged (l l' : Link) (p p' : Parts) : Type 0 where

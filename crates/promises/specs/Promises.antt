@@ -9,7 +9,7 @@ use Rattle.lists.specs.declared.Sent.{Sent}
 use Rattle.session.specs.State.{State, Outcome, refused, done}
 use Rattle.session.specs.Sending.{Sends}
 use Rattle.session.specs.Input.{Took}
-use Rattle.session.specs.Flushing.{Flushed, bytesOfSegments}
+use Rattle.session.specs.Flushing.{Flushed, bytes_of_segments}
 use Rattle.session.specs.Reading.{Reads, Part}
 use Rattle.session.specs.Updating.{Updates, waits, flushes}
 use Rattle.control.specs.declared.Link.{Link}
@@ -21,18 +21,18 @@ use Rattle.answers.specs.declared.Update.{Update}
 use Rattle.answers.specs.declared.Time.{Time}
 use Rattle.promises.specs.Parts.{Parts, FlushParts, Stands, Unchanged}
 use Rattle.promises.specs.Outcomes as outcomes
-use Rattle.promises.specs.Outcomes.{opens, sends, takesIn, reads, tells, shows, updates, checks}
+use Rattle.promises.specs.Outcomes.{opens, sends, takes_in, reads, tells, shows, updates, checks}
 use Rattle.promises.specs.Answers.{
   Accepts,
   Counts,
-  countOutcome,
-  updateAnswer,
-  timeOutcome,
-  outcomeNumber,
-  answerNumber,
-  countNumber,
-  updateNumber,
-  timeNumber,
+  count_outcome,
+  update_answer,
+  time_outcome,
+  outcome_number,
+  answer_number,
+  count_number,
+  update_number,
+  time_number,
 }
 
 -- the table with the records of a state's outstanding segments at their slots: no other record changes
@@ -48,14 +48,14 @@ OpenLeaves (done s) l l' p p' = Stands l' p' s × (p' ≡ p)
 -- opening with the settings c
 pub record OpenPromise (c : Settings) (l : Link) (p : Parts) (a : Answer) (l' : Link) (p' : Parts) : Type 0 where
   pub answer : Accepts a (opens c p)
-  pub number : answerNumber a ≡ outcomeNumber (opens c p)
+  pub number : answer_number a ≡ outcome_number (opens c p)
   pub leaves : OpenLeaves (opens c p) l l' p p'
 
 -- a message sent: the send pool alone changes
 pub record Queues (x : Sends) (l' : Link) (p p' : Parts) : Type 0 where
   pub stands : Stands l' p' x.state
-  pub sendPool : p'.sendPool ≡ x.pool
-  pub receivePool : p'.receivePool ≡ p.receivePool
+  pub send_pool : p'.send_pool ≡ x.pool
+  pub receive_pool : p'.receive_pool ≡ p.receive_pool
   pub table : p'.table ≡ p.table
   pub acks : p'.acks ≡ p.acks
 
@@ -66,18 +66,18 @@ SendLeaves (done x) l l' p p' = Queues x l' p p'
 -- sending a message
 pub record SendPromise (message : List ℕ) (l : Link) (p : Parts) (a : Answer) (l' : Link) (p' : Parts) : Type 0 where
   pub answer : Accepts a (sends l p message)
-  pub number : answerNumber a ≡ outcomeNumber (sends l p message)
+  pub number : answer_number a ≡ outcome_number (sends l p message)
   pub leaves : SendLeaves (sends l p message) l l' p p'
 
 -- a datagram taken in: the receive pool as the definition has it, the records of the outstanding segments, and the ack list behind its
 -- pairs as it was
 pub record TookIn (x : Took) (l' : Link) (p p' : Parts) : Type 0 where
   pub stands : Stands l' p' x.state
-  pub sendPool : p'.sendPool ≡ p.sendPool
-  pub receivePool : p'.receivePool ≡ x.pool
+  pub send_pool : p'.send_pool ≡ p.send_pool
+  pub receive_pool : p'.receive_pool ≡ x.pool
   pub table : p'.table ≡ table_of p.table x.state
-  pub ackLength : length p'.acks ≡ length p.acks
-  pub ackRest : drop (2 * l'.arrival.acks) p'.acks ≡ drop (2 * l'.arrival.acks) p.acks
+  pub ack_length : length p'.acks ≡ length p.acks
+  pub ack_rest : drop (2 * l'.arrival.acks) p'.acks ≡ drop (2 * l'.arrival.acks) p.acks
 
 abbrev pub InputLeaves : Outcome Took → Link → Link → Parts → Parts → Type 0
 InputLeaves (refused r) l l' p p' = Unchanged l l' p p'
@@ -85,9 +85,9 @@ InputLeaves (done x) l l' p p' = TookIn x l' p p'
 
 -- taking in a datagram
 pub record InputPromise (datagram : List ℕ) (l : Link) (p : Parts) (a : Answer) (l' : Link) (p' : Parts) : Type 0 where
-  pub answer : Accepts a (takesIn l p datagram)
-  pub number : answerNumber a ≡ outcomeNumber (takesIn l p datagram)
-  pub leaves : InputLeaves (takesIn l p datagram) l l' p p'
+  pub answer : Accepts a (takes_in l p datagram)
+  pub number : answer_number a ≡ outcome_number (takes_in l p datagram)
+  pub leaves : InputLeaves (takes_in l p datagram) l l' p p'
 
 -- these datagrams, so many, stand at the start of the output and their lengths at the start of the lengths; both are as they were beyond
 abbrev pub WrittenTo : List (List ℕ) → ℕ → FlushParts → FlushParts → Type 0
@@ -96,16 +96,16 @@ WrittenTo ds count f f' = Output ds f.output f.lengths count f'.output f'.length
 -- a flush: the records of the outstanding segments, and the datagrams in output and lengths; cleared ack entries keep their values
 pub record Flushes (x : Flushed) (l' : Link) (p p' : Parts) (f f' : FlushParts) : Type 0 where
   pub stands : Stands l' p' x.state
-  pub sendPool : p'.sendPool ≡ p.sendPool
-  pub receivePool : p'.receivePool ≡ p.receivePool
+  pub send_pool : p'.send_pool ≡ p.send_pool
+  pub receive_pool : p'.receive_pool ≡ p.receive_pool
   pub table : p'.table ≡ table_of p.table x.state
   pub acks : p'.acks ≡ p.acks
-  pub output : WrittenTo (map bytesOfSegments x.datagrams) (length x.datagrams) f f'
+  pub output : WrittenTo (map bytes_of_segments x.datagrams) (length x.datagrams) f f'
 
 -- a refused flush writes nothing
 pub record NoFlush (l l' : Link) (p p' : Parts) (f f' : FlushParts) : Type 0 where
   pub unchanged : Unchanged l l' p p'
-  pub flushParts : f' ≡ f
+  pub flush_parts : f' ≡ f
 
 abbrev pub FlushLeaves : Outcome Flushed → Link → Link → Parts → Parts → FlushParts → FlushParts → Type 0
 FlushLeaves (refused r) l l' p p' f f' = NoFlush l l' p p' f f'
@@ -115,14 +115,14 @@ FlushLeaves (done x) l l' p p' f f' = Flushes x l' p p' f f'
 pub record FlushPromise (t : ℕ) (l : Link) (p : Parts) (f : FlushParts) (a : Count) (l' : Link) (p' : Parts) (f' : FlushParts) : Type 0
   where
     pub answer : Counts (λ (x : Flushed). length x.datagrams) a (outcomes.flushes l p f t)
-    pub number : countNumber a ≡ outcomeNumber (outcomes.flushes l p f t)
+    pub number : count_number a ≡ outcome_number (outcomes.flushes l p f t)
     pub leaves : FlushLeaves (outcomes.flushes l p f t) l l' p p' f f'
 
 -- an update that waits: the block has the new current time and schedule; every lent byte and record is as it was
 pub record Waits (s : State) (l' : Link) (p p' : Parts) (f f' : FlushParts) : Type 0 where
   pub stands : Stands l' p' s
   pub parts : p' ≡ p
-  pub flushParts : f' ≡ f
+  pub flush_parts : f' ≡ f
 
 abbrev pub UpdateLeaves : Outcome Updates → Link → Link → Parts → Parts → FlushParts → FlushParts → Type 0
 UpdateLeaves (refused r) l l' p p' f f' = NoFlush l l' p p' f f'
@@ -132,14 +132,14 @@ UpdateLeaves (done (flushes x)) l l' p p' f f' = Flushes x l' p p' f f'
 -- an update at t answers that it waited, or the number of its flush's datagrams
 pub record UpdatePromise (t : ℕ) (l : Link) (p : Parts) (f : FlushParts) (a : Update) (l' : Link) (p' : Parts) (f' : FlushParts) : Type 0
   where
-    pub answer : a ≡ updateAnswer (updates l p f t)
-    pub number : updateNumber a ≡ outcomeNumber (updates l p f t)
+    pub answer : a ≡ update_answer (updates l p f t)
+    pub number : update_number a ≡ outcome_number (updates l p f t)
     pub leaves : UpdateLeaves (updates l p f t) l l' p p' f f'
 
 -- a check at t changes nothing
 pub record CheckPromise (t : ℕ) (l : Link) (p : Parts) (a : Time) : Type 0 where
-  pub answer : timeOutcome a ≡ checks l p t
-  pub number : timeNumber a ≡ outcomeNumber (checks l p t)
+  pub answer : time_outcome a ≡ checks l p t
+  pub number : time_number a ≡ outcome_number (checks l p t)
 
 -- a message read: it stands at the start of the buffer, which is as it was beyond it; no lent part changes
 pub record ReadIt (x : Reads) (l' : Link) (p p' : Parts) (buffer buffer' : List ℕ) : Type 0 where
@@ -158,13 +158,13 @@ ReadLeaves (done x) l l' p p' buffer buffer' = ReadIt x l' p p' buffer buffer'
 -- reading a message answers its length
 pub record ReadPromise (l : Link) (p : Parts) (buffer : List ℕ) (a : Count) (l' : Link) (p' : Parts) (buffer' : List ℕ) : Type 0 where
   pub answer : Counts (λ (x : Reads). length x.bytes) a (reads l p (length buffer))
-  pub number : countNumber a ≡ outcomeNumber (reads l p (length buffer))
+  pub number : count_number a ≡ outcome_number (reads l p (length buffer))
   pub leaves : ReadLeaves (reads l p (length buffer)) l l' p p' buffer buffer'
 
 -- telling the size changes nothing
 pub record SizePromise (l : Link) (p : Parts) (a : Count) : Type 0 where
-  pub answer : countOutcome a ≡ tells l p
-  pub number : countNumber a ≡ outcomeNumber (tells l p)
+  pub answer : count_outcome a ≡ tells l p
+  pub number : count_number a ≡ outcome_number (tells l p)
 
 -- the bytes of a part of the receive pool; refused, an empty part
 abbrev pub shown : Outcome Part → List ℕ → List ℕ
@@ -189,4 +189,4 @@ pub record ShowsPart (o : Outcome Part) (address : ℕ × ℕ) (pool : List ℕ)
 -- showing changes nothing, and gives the front segment's payload as the very part of the receive pool that holds it: the pool's address,
 -- and that of the part with its bytes; an empty one at the pool's start where it is refused
 abbrev pub ShowPromise : Link → Parts → ℕ × ℕ → ℕ × ℕ → List ℕ → Type 0
-ShowPromise l p address address' part = ShowsPart (shows l p) address p.receivePool address' part
+ShowPromise l p address address' part = ShowsPart (shows l p) address p.receive_pool address' part

@@ -15,13 +15,13 @@ unfoldable pub signed : ℕ → ℤ
 signed x = cond (nat_lt x (2 ^ 31)) (pos x) (negsuc (2 ^ 32 - suc x))
 
 -- a is before b: a - b is negative
-unfoldable pub isBefore : ℕ → ℕ → Bool
-isBefore a b = int_lt (signed (minus a b)) (pos 0)
+unfoldable pub is_before : ℕ → ℕ → Bool
+is_before a b = int_lt (signed (minus a b)) (pos 0)
 
 -- a is after b: a - b is positive
-unfoldable pub isAfter : ℕ → ℕ → Bool
-isAfter a b = int_lt (pos 0) (signed (minus a b))
+unfoldable pub is_after : ℕ → ℕ → Bool
+is_after a b = int_lt (pos 0) (signed (minus a b))
 
 -- a time d is due at t: t - d is 0 or more
-unfoldable pub isDue : ℕ → ℕ → Bool
-isDue t d = int_le (pos 0) (signed (minus t d))
+unfoldable pub is_due : ℕ → ℕ → Bool
+is_due t d = int_le (pos 0) (signed (minus t d))

@@ -4,7 +4,7 @@ use Rattle.std.specs.Prelude.{◌≡◌, ℕ, suc, ◌-◌, ◌^◌, ◌<◌, �
 use Rattle.std.proofs.Math.Decide.{dec_lt}
 use Rattle.std.proofs.Common.{arith, lt-ltb, le-ltb, le-leb}
 use Rattle.std.proofs.lemmas.Bool.{lt-leb}
-use Rattle.protocol.specs.Serial.{minus, signed, isBefore, isAfter, isDue}
+use Rattle.protocol.specs.Serial.{minus, signed, is_before, is_after, is_due}
 
 pub signed_low : (x : ℕ) → x < 2 ^ 31 → signed x ≡ pos x
 unfolding signed
@@ -15,26 +15,26 @@ unfolding signed
 signed_high x h = rw (le-ltb _ _ h)
 
 -- negative: 2^31 or more
-pub before-test : (a b : ℕ) → isBefore a b ≡ nat_le (2 ^ 31) (minus a b)
-unfolding isBefore
-before-test a b = go (minus a b) (dec_lt (minus a b) (2 ^ 31))
+pub before_test : (a b : ℕ) → is_before a b ≡ nat_le (2 ^ 31) (minus a b)
+unfolding is_before
+before_test a b = go (minus a b) (dec_lt (minus a b) (2 ^ 31))
   where
     go : (x : ℕ) → Dec (x < 2 ^ 31) → int_lt (signed x) (pos 0) ≡ nat_le (2 ^ 31) x
     go x (yes h) = rw (signed_low x h, lt-leb _ _ h, le-ltb x 0 (omega arith))
     go x (no h) = rw (signed_high x (omega arith), le-leb (2 ^ 31) x (omega arith))
 
 -- 0 or more: below 2^31
-pub due-test : (t d : ℕ) → isDue t d ≡ nat_lt (minus t d) (2 ^ 31)
-unfolding isDue
-due-test t d = go (minus t d) (dec_lt (minus t d) (2 ^ 31))
+pub due_test : (t d : ℕ) → is_due t d ≡ nat_lt (minus t d) (2 ^ 31)
+unfolding is_due
+due_test t d = go (minus t d) (dec_lt (minus t d) (2 ^ 31))
   where
     go : (x : ℕ) → Dec (x < 2 ^ 31) → int_le (pos 0) (signed x) ≡ nat_lt x (2 ^ 31)
     go x (yes h) = rw (signed_low x h, lt-ltb _ _ h, le-leb 0 x (omega arith))
     go x (no h) = rw (signed_high x (omega arith), le-ltb x (2 ^ 31) (omega arith))
 
 -- positive: not 0, and below 2^31
-pub after_test : (a b : ℕ) → isAfter a b ≡ (nat_lt 0 (minus a b) && nat_lt (minus a b) (2 ^ 31))
-unfolding isAfter
+pub after_test : (a b : ℕ) → is_after a b ≡ (nat_lt 0 (minus a b) && nat_lt (minus a b) (2 ^ 31))
+unfolding is_after
 after_test a b = go (minus a b) (dec_lt (minus a b) (2 ^ 31)) (dec_lt 0 (minus a b))
   where
     go : (x : ℕ) → Dec (x < 2 ^ 31) → Dec (0 < x) → int_lt (pos 0) (signed x) ≡ (nat_lt 0 x && nat_lt x (2 ^ 31))

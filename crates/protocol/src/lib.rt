@@ -2,7 +2,7 @@
 pub mod serial;
 
 ghost use Rattle.std.specs.Prelude.{◌≡◌, ◌-◌};
-ghost use Rattle.protocol.specs.Protocol.{headerSize};
+ghost use Rattle.protocol.specs.Protocol.{header_size};
 ghost use Rattle.protocol.specs.Ranges.{in_range};
 ghost use Rattle.protocol.specs.Refusals.{number_of};
 
@@ -156,7 +156,7 @@ impl Settings {
 
     // The largest payload: 0 for an mtu below a header's size.
     pub fn mss(self) -> usize
-        ensures { result ≡ self.mtu - headerSize }
+        ensures { result ≡ self.mtu - header_size }
     {
         let mtu = self.mtu as usize;
         if mtu < Protocol::HEADER {

@@ -1,6 +1,6 @@
 // Sequence numbers and times: 32-bit numbers that wrap.
 ghost use Rattle.std.specs.Prelude.{◌≡◌};
-ghost use Rattle.protocol.specs.Serial.{plus, minus, signed, isBefore, isAfter, isDue};
+ghost use Rattle.protocol.specs.Serial.{plus, minus, signed, is_before, is_after, is_due};
 
 // Half of the 32-bit numbers: a difference of this or more is negative.
 const HALF: u32 = 2147483648;
@@ -31,20 +31,20 @@ pub fn read_signed(x: u32) -> i64
 }
 
 pub fn before(a: u32, b: u32) -> bool
-    ensures { result ≡ isBefore a b }
+    ensures { result ≡ is_before a b }
 {
     read_signed(difference(a, b)) < 0
 }
 
 pub fn after(a: u32, b: u32) -> bool
-    ensures { result ≡ isAfter a b }
+    ensures { result ≡ is_after a b }
 {
     0 < read_signed(difference(a, b))
 }
 
 // Whether the time d is due at t.
 pub fn due(t: u32, d: u32) -> bool
-    ensures { result ≡ isDue t d }
+    ensures { result ≡ is_due t d }
 {
     0 <= read_signed(difference(t, d))
 }

@@ -8,38 +8,38 @@ use native.Mathlib.Nat.{mul-le-mul_right}
 use native.Mathlib.Decide.{dec_lt}
 use native.Mathlib.Omega.{arith}
 use lib.ListN.{length, take, drop, get_or}
-use Rattle.protocol.specs.Protocol.{receiveSlots}
+use Rattle.protocol.specs.Protocol.{receive_slots}
 use Rattle.protocol.specs.Ranges.{mss}
 use Rattle.protocol.specs.declared.Refusal.{Refusal}
 use Rattle.timing.specs.declared.Record.{Record}
 use Rattle.lists.specs.declared.Held.{Held}
 use Rattle.session.specs.State.{Outcome, refused, done}
-use Rattle.session.specs.Reading.{Part, readable, frontPart, showing}
-use Rattle.words.specs.Words.{unpack, heldIn}
+use Rattle.session.specs.Reading.{Part, readable, front_part, showing}
+use Rattle.words.specs.Words.{unpack, held_in}
 use Rattle.control.specs.Views.{state_of}
 use Rattle.control.specs.declared.Link.{Link}
 use Rattle.checking.specs.VerdictLaws.{Passes}
 use Rattle.promises.specs.Outcomes.{checked}
 use Rattle.promises.specs.Promises.{shown, place_of, LiesAt, ShowsPart}
 use Rattle.deliver.specs.Messages.{InSlots}
-use Rattle.deliver.proofs.Fronts.{rest-next, rest_end}
-use Rattle.deliver.proofs.Copies.{in-slot}
+use Rattle.deliver.proofs.Fronts.{rest_next, rest_end}
+use Rattle.deliver.proofs.Copies.{in_slot}
 use Rattle.read_core.specs.declared.Place.{Place}
 use Rattle.read_core.specs.Messages.{Readable}
-use Rattle.read_core.specs.Places.{frontOutcome, PlaceIs}
+use Rattle.read_core.specs.Places.{front_outcome, PlaceIs}
 
 -- ---- the front segment
 
 -- slots are below 256
-pub slot-fits : (mss s : ℕ) → s < 256 → mss < 2 ^ 16 → s * mss < 2 ^ 64
-slot-fits mss s h g = omega (arith, mul-le-mul_right {m = s} {n = 256} mss (omega arith))
+pub slot_fits : (mss s : ℕ) → s < 256 → mss < 2 ^ 16 → s * mss < 2 ^ 64
+slot_fits mss s h g = omega (arith, mul-le-mul_right {m = s} {n = 256} mss (omega arith))
 
 -- its payload ends within the slots
-part_low : (m : ℕ) (l : List Held) → InSlots m l → (frontPart m l).start + (frontPart m l).count ≤ receiveSlots * m
+part_low : (m : ℕ) (l : List Held) → InSlots m l → (front_part m l).start + (front_part m l).count ≤ receive_slots * m
 part_low m [] i = omega arith
-part_low m (h ∷ l) i = in-slot m h.slot h.len (receiveSlots * m) i.slots.0 i.lengths.0 (omega arith)
+part_low m (h ∷ l) i = in_slot m h.slot h.len (receive_slots * m) i.slots.0 i.lengths.0 (omega arith)
 
-module _ (m : ℕ) (ws : List ℕ) (n : ℕ) (b : Bool) (e : b ≡ readable (heldIn ws n)) where
+module _ (m : ℕ) (ws : List ℕ) (n : ℕ) (b : Bool) (e : b ≡ readable (held_in ws n)) where
   -- where a message can be read, there is a front segment
   some : b ≡ true → 0 < n
   some t = go (dec_lt 0 n)
@@ -48,29 +48,29 @@ module _ (m : ℕ) (ws : List ℕ) (n : ℕ) (b : Bool) (e : b ≡ readable (hel
       go (yes h) = h
       go (no h) = absurd (false≢true (sym (rw (rest_end ws n 0 (omega arith)) at e) ∙ t))
 
-  pub front-placed : b ≡ true → n ≤ length ws → InSlots m (heldIn ws n) → (slot len : ℕ) → slot ≡ (unpack (get_or ws 0 0)).slot
+  pub front_placed : b ≡ true → n ≤ length ws → InSlots m (held_in ws n) → (slot len : ℕ) → slot ≡ (unpack (get_or ws 0 0)).slot
       → len ≡ (unpack (get_or ws 0 0)).len
-      → PlaceIs (place_of (frontOutcome m (heldIn ws n))) (receiveSlots * m) (record { start = slot * m; count = len })
-  unfolding frontOutcome place_of
-  front-placed t g i slot len p q =
-      let first = rest-next ws n 0 (some t) g in
-      let low = rw (first, ← p, ← q) at (part_low m (heldIn ws n) i) in
+      → PlaceIs (place_of (front_outcome m (held_in ws n))) (receive_slots * m) (record { start = slot * m; count = len })
+  unfolding front_outcome place_of
+  front_placed t g i slot len p q =
+      let first = rest_next ws n 0 (some t) g in
+      let low = rw (first, ← p, ← q) at (part_low m (held_in ws n) i) in
       rw (sym e ∙ t, first, ← p, ← q) (record { start = refl; count = refl; within = low })
 
-  pub front-unplaced : b ≡ false → PlaceIs (place_of (frontOutcome m (heldIn ws n))) (receiveSlots * m) (record { start = 0; count = 0 })
-  unfolding frontOutcome place_of
-  front-unplaced f = rw (sym e ∙ f) (record { start = refl; count = refl; within = omega arith })
+  pub front_unplaced : b ≡ false → PlaceIs (place_of (front_outcome m (held_in ws n))) (receive_slots * m) (record { start = 0; count = 0 })
+  unfolding front_outcome place_of
+  front_unplaced f = rw (sym e ∙ f) (record { start = refl; count = refl; within = omega arith })
 
 -- ---- behind the checks, and where they refuse
 
 pub placed : (l : Link) (records : List Record) (acks pool : List ℕ) (long made : Bool) → Passes long made → Readable l pool → (m : ℕ)
     → m ≡ mss l.settings → (r : Place)
-    → PlaceIs (place_of (frontOutcome m (heldIn l.ready l.arrival.ready))) (receiveSlots * m) r
+    → PlaceIs (place_of (front_outcome m (held_in l.ready l.arrival.ready))) (receive_slots * m) r
     → PlaceIs (place_of (checked long made (showing (state_of l records acks)))) (length pool) r
-unfolding showing state_of frontOutcome place_of
+unfolding showing state_of front_outcome place_of
 placed l records acks pool long made p ok m e r h =
     let q = rw e at h in
-    rw (p.long-enough, p.valid-block) (record
+    rw (p.long_enough_lem, p.valid_block) (record
     { start = q.start; count = q.count; within = omega (arith, q.within, ok.inside.whole) })
 
 pub unplaced : (o : Outcome Part) (q : Refusal) → o ≡ refused q → (size : ℕ) → PlaceIs (place_of o) size (record { start = 0; count = 0 })
@@ -79,11 +79,11 @@ unplaced o q e size = rw e (record { start = refl; count = refl; within = omega 
 
 -- ---- the part itself
 
-pub shows-part : (o : Outcome Part) (pool : List ℕ) (p : Place) → PlaceIs (place_of o) (length pool) p
+pub shows_part : (o : Outcome Part) (pool : List ℕ) (p : Place) → PlaceIs (place_of o) (length pool) p
     → (address address' : ℕ × ℕ) (part : List ℕ) → LiesAt p.start address address'
     → part ≡ take p.count (drop p.start pool) → ShowsPart o address pool address' part
 unfolding place_of
-shows-part o pool p q address address' part at b = record { place = rw q.start at at; bytes = b ∙ rw (q.start, q.count) (go o) }
+shows_part o pool p q address address' part at b = record { place = rw q.start at at; bytes = b ∙ rw (q.start, q.count) (go o) }
   where
     go : (o : Outcome Part) → take (place_of o).count (drop (place_of o).start pool) ≡ shown o pool
     go (refused r) = refl

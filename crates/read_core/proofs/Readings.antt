@@ -12,41 +12,41 @@ use Rattle.protocol.specs.declared.Refusal.{Refusal}
 use Rattle.protocol.specs.declared.Refusal.TheVariants.{ShortPart, NoMessage}
 use Rattle.protocol.specs.declared.Settings.{Settings}
 use Rattle.timing.specs.declared.Record.{Record}
-use Rattle.session.specs.State.{State, Outcome, refused, done, withReceiving}
-use Rattle.session.specs.Reading.{Reads, reading, telling, readable, frontCount, length_of, message, messageSize, afterRead}
-use Rattle.words.specs.Words.{heldIn}
+use Rattle.session.specs.State.{State, Outcome, refused, done, with_receiving}
+use Rattle.session.specs.Reading.{Reads, reading, telling, readable, front_count, length_of, message, message_size, after_read}
+use Rattle.words.specs.Words.{held_in}
 use Rattle.answers.specs.declared.Count.{Count}
 use Rattle.answers.specs.declared.Count.TheVariants.{Of, Refused}
-use Rattle.control.specs.Views.{pairs, arrays, link_of, state_of, countsFit}
+use Rattle.control.specs.Views.{pairs, arrays, link_of, state_of, counts_fit}
 use Rattle.control.specs.declared.Arrival.{Arrival}
 use Rattle.control.specs.declared.Clock.{Clock}
 use Rattle.control.specs.declared.Flight.{Flight}
 use Rattle.control.specs.declared.Link.{Link}
 use Rattle.checking.specs.VerdictLaws.{Passes}
-use Rattle.promises.specs.Answers.{countOutcome, size_of}
+use Rattle.promises.specs.Answers.{count_outcome, size_of}
 use Rattle.promises.specs.Outcomes.{checked}
 use Rattle.promises.specs.Cores.{ReadCore}
-use Rattle.deliver.specs.Messages.{frontOf, fittingOf, Taken}
-use Rattle.deliver.proofs.Copies.{in-pool-take, joined_length}
-use Rattle.deliver.proofs.Sizes.{fitting-fits}
+use Rattle.deliver.specs.Messages.{front_of, fitting_of, Taken}
+use Rattle.deliver.proofs.Copies.{in_pool_take, joined_length}
+use Rattle.deliver.proofs.Sizes.{fitting_fits}
 use Rattle.read_core.specs.Messages.{Readable, ReadMessage}
-use Rattle.read_core.proofs.Blocks.{block-counts}
+use Rattle.read_core.proofs.Blocks.{block_counts}
 
 -- ---- reading, by the size of the message
 
 abbrev reads_of : State → List ℕ → Reads
-reads_of s pool = record { state = withReceiving s (afterRead s.receiving); bytes = message s pool }
+reads_of s pool = record { state = with_receiving s (after_read s.receiving); bytes = message s pool }
 
 abbrev read_by : State → List ℕ → Outcome ℕ → Outcome Reads
 read_by s pool (refused r) = refused r
 read_by s pool (done n) = done (reads_of s pool)
 
-read-by : (s : State) (pool : List ℕ) (room : ℕ) → read_by s pool (fittingOf s.receiving.ready room) ≡ reading s pool room
-unfolding fittingOf reading messageSize
-read-by s pool room = go (readable s.receiving.ready) (leb (length_of (frontOf s.receiving.ready)) room)
+read_by_lem : (s : State) (pool : List ℕ) (room : ℕ) → read_by s pool (fitting_of s.receiving.ready room) ≡ reading s pool room
+unfolding fitting_of reading message_size
+read_by_lem s pool room = go (readable s.receiving.ready) (leb (length_of (front_of s.receiving.ready)) room)
   where
     go : (a b : Bool)
-        → read_by s pool (cond a (cond b (done (length_of (frontOf s.receiving.ready))) (refused ShortPart)) (refused NoMessage))
+        → read_by s pool (cond a (cond b (done (length_of (front_of s.receiving.ready))) (refused ShortPart)) (refused NoMessage))
         ≡ cond a (cond b (done (reads_of s pool)) (refused ShortPart)) (refused NoMessage)
     go true true = refl
     go true false = refl
@@ -54,21 +54,21 @@ read-by s pool room = go (readable s.receiving.ready) (leb (length_of (frontOf s
 
 -- ---- by the size that was found
 
-module _ (a : Arrival) (m : ℕ) (ready waiting numbers pool buffer : List ℕ) (found : Count) (o : Outcome ℕ) (e : countOutcome found ≡ o)
+module _ (a : Arrival) (m : ℕ) (ready waiting numbers pool buffer : List ℕ) (found : Count) (o : Outcome ℕ) (e : count_outcome found ≡ o)
   where
-    pub message-taken : (n : ℕ) → found ≡ Of n → (r : Arrival) (ready' waiting' numbers' buffer' : List ℕ)
+    pub message_taken : (n : ℕ) → found ≡ Of n → (r : Arrival) (ready' waiting' numbers' buffer' : List ℕ)
         → Taken a m ready waiting numbers pool buffer r ready' waiting' numbers' buffer'
         → ReadMessage o a m ready waiting numbers pool buffer (Of n) r ready' waiting' numbers' buffer'
-    message-taken n f r ready' waiting' numbers' buffer' t = rw (← e, f) (refl, t)
+    message_taken n f r ready' waiting' numbers' buffer' t = rw (← e, f) (refl, t)
 
-    pub message-refused : (q : Refusal) → found ≡ Refused q
+    pub message_refused : (q : Refusal) → found ≡ Refused q
         → ReadMessage o a m ready waiting numbers pool buffer (Refused q) a ready waiting numbers buffer
-    message-refused q f = rw (← e, f) (record {
+    message_refused q f = rw (← e, f) (record {
       answered = refl;
       arrival = refl;
-      ready-same = refl;
-      waiting-same = refl;
-      numbers-same = refl;
+      ready_same = refl;
+      waiting_same = refl;
+      numbers_same = refl;
       bytes_same = refl;
     })
 
@@ -83,64 +83,64 @@ module _ (c : Settings) (f : Flight) (a : Arrival) (k : Clock) (queued outstandi
   abbrev after : Link
   after = link_of c f r k (arrays queued outstanding transmissions ready' waiting' numbers')
 
-  counted : Taken a (mss c) ready waiting numbers pool buffer r ready' waiting' numbers' buffer' → countsFit before ≡ true
-      → countsFit after ≡ true
-  unfolding countsFit
-  counted t e = let n = block-counts before e in
+  counted : Taken a (mss c) ready waiting numbers pool buffer r ready' waiting' numbers' buffer' → counts_fit before ≡ true
+      → counts_fit after ≡ true
+  unfolding counts_fit
+  counted t e = let n = block_counts before e in
       rw (
         le-leb _ _ n.queued,
         le-leb _ _ n.outstanding,
-        le-leb _ _ t.counts.few-ready,
-        le-leb _ _ t.counts.few-waiting,
-        t.same-acks,
+        le-leb _ _ t.counts.few_ready,
+        le-leb _ _ t.counts.few_waiting,
+        t.same_acks,
         le-leb _ _ n.acks,
       ) refl
 
-  after-state : Taken a (mss c) ready waiting numbers pool buffer r ready' waiting' numbers' buffer'
-      → state_of after records acks ≡ withReceiving (state_of before records acks) (afterRead (state_of before records acks).receiving)
+  after_state : Taken a (mss c) ready waiting numbers pool buffer r ready' waiting' numbers' buffer'
+      → state_of after records acks ≡ with_receiving (state_of before records acks) (after_read (state_of before records acks).receiving)
   unfolding state_of
-  after-state t = ap (withReceiving (state_of before records acks)) (rw t.same-acks (t.reads (pairs a.acks acks)))
+  after_state t = ap (with_receiving (state_of before records acks)) (rw t.same_acks (t.reads (pairs a.acks acks)))
 
-  by-outcome : Readable before pool → (o : Outcome ℕ) → fittingOf (heldIn ready a.ready) (length buffer) ≡ o
+  by_outcome : Readable before pool → (o : Outcome ℕ) → fitting_of (held_in ready a.ready) (length buffer) ≡ o
       → ReadMessage o a (mss c) ready waiting numbers pool buffer answer r ready' waiting' numbers' buffer'
       → ReadCore (read_by (state_of before records acks) pool o) before records acks buffer answer after buffer'
   unfolding state_of message
-  by-outcome ok (refused q) e n = (n.answered, rw (n.arrival, n.ready-same, n.waiting-same, n.numbers-same) refl, n.bytes_same)
-  by-outcome ok (done n) e m =
-      let l = heldIn ready a.ready in
+  by_outcome ok (refused q) e n = (n.answered, rw (n.arrival, n.ready_same, n.waiting_same, n.numbers_same) refl, n.bytes_same)
+  by_outcome ok (done n) e m =
+      let l = held_in ready a.ready in
       record {
-        answer = m.0 ∙ ap Of ((fitting-fits l (length buffer) n (sym e)).1 ∙ sym
-            (joined_length (mss c) pool (frontOf l) (in-pool-take (mss c) pool (frontCount l) l ok.inside)));
+        answer = m.0 ∙ ap Of ((fitting_fits l (length buffer) n (sym e)).1 ∙ sym
+            (joined_length (mss c) pool (front_of l) (in_pool_take (mss c) pool (front_count l) l ok.inside)));
         counts = counted m.1 ok.counts;
-        state = after-state m.1;
+        state = after_state m.1;
         slots = refl;
         bytes = m.1.bytes;
       }
 
   -- m is the mss that was asked for
-  pub reads-block : (m : ℕ) → m ≡ mss c → Readable before pool
-      → ReadMessage (fittingOf (heldIn ready a.ready) (length buffer)) a m ready waiting numbers pool buffer answer r ready' waiting'
+  pub reads_block : (m : ℕ) → m ≡ mss c → Readable before pool
+      → ReadMessage (fitting_of (held_in ready a.ready) (length buffer)) a m ready waiting numbers pool buffer answer r ready' waiting'
       numbers' buffer'
       → ReadCore (reading (state_of before records acks) pool (length buffer)) before records acks buffer answer after buffer'
   unfolding state_of
-  reads-block m q ok h = rw (← read-by (state_of before records acks) pool (length buffer))
-      (by-outcome ok (fittingOf (heldIn ready a.ready) (length buffer)) refl (rw q at h))
+  reads_block m q ok h = rw (← read_by_lem (state_of before records acks) pool (length buffer))
+      (by_outcome ok (fitting_of (held_in ready a.ready) (length buffer)) refl (rw q at h))
 
 -- ---- behind the checks, and where they refuse
 
 pub own_read : (l : Link) (records : List Record) (acks buffer : List ℕ) (answer : Count) (l' : Link) (buffer' : List ℕ) (long made : Bool)
     (own : Outcome Reads) → Passes long made
     → ReadCore own l records acks buffer answer l' buffer' → ReadCore (checked long made own) l records acks buffer answer l' buffer'
-own_read l records acks buffer answer l' buffer' long made own p h = rw (p.long-enough, p.valid-block) h
+own_read l records acks buffer answer l' buffer' long made own p h = rw (p.long_enough_lem, p.valid_block) h
 
-pub not-read : (o : Outcome Reads) (q : Refusal) → o ≡ refused q → (l : Link) (records : List Record) (acks buffer : List ℕ)
+pub not_read : (o : Outcome Reads) (q : Refusal) → o ≡ refused q → (l : Link) (records : List Record) (acks buffer : List ℕ)
     → ReadCore o l records acks buffer (Refused q) l buffer
-not-read o q e l records acks buffer = rw e (refl, refl, refl)
+not_read o q e l records acks buffer = rw e (refl, refl, refl)
 
 -- ---- telling
 
-pub tells-block : (l : Link) (records : List Record) (acks : List ℕ) (long made : Bool) → Passes long made → (r : Count)
-    → countOutcome r ≡ size_of (heldIn l.ready l.arrival.ready)
-    → countOutcome r ≡ checked long made (telling (state_of l records acks))
-unfolding size_of telling messageSize state_of
-tells-block l records acks long made p r e = rw (p.long-enough, p.valid-block) e
+pub tells_block : (l : Link) (records : List Record) (acks : List ℕ) (long made : Bool) → Passes long made → (r : Count)
+    → count_outcome r ≡ size_of (held_in l.ready l.arrival.ready)
+    → count_outcome r ≡ checked long made (telling (state_of l records acks))
+unfolding size_of telling message_size state_of
+tells_block l records acks long made p r e = rw (p.long_enough_lem, p.valid_block) e

@@ -5,37 +5,37 @@ use Rattle.protocol.specs.Ranges.{mss}
 use Rattle.protocol.specs.declared.Refusal.{Refusal}
 use Rattle.timing.specs.declared.Record.{Record}
 use Rattle.session.specs.State.{Outcome, refused, done}
-use Rattle.words.specs.Words.{heldIn}
-use Rattle.control.specs.Views.{countsFit}
+use Rattle.words.specs.Words.{held_in}
+use Rattle.control.specs.Views.{counts_fit}
 use Rattle.control.specs.declared.Arrival.{Arrival}
 use Rattle.control.specs.declared.Link.{Link}
 use Rattle.answers.specs.declared.Count.{Count}
 use Rattle.answers.specs.declared.Count.TheVariants.{Of, Refused}
-use Rattle.promises.specs.Parts.{lentLengths}
-use Rattle.promises.specs.Outcomes.{readsWith}
+use Rattle.promises.specs.Parts.{lent_lengths}
+use Rattle.promises.specs.Outcomes.{reads_with}
 use Rattle.promises.specs.Cores.{ReadCore}
 use Rattle.deliver.specs.Messages.{InPool, Taken}
 
 -- reading, with the lent parts: l is the block before, l' the one after
 abbrev pub ReadOver : Link → List Record → ℕ → List ℕ → List ℕ → List ℕ → List ℕ → Count → Link → List ℕ → Type 0
-ReadOver l records table sendPool receivePool acks buffer a l' buffer' =
-    ReadCore (readsWith l records acks (lentLengths table sendPool receivePool acks) receivePool (length buffer)) l records acks buffer a l'
+ReadOver l records table send_pool receive_pool acks buffer a l' buffer' =
+    ReadCore (reads_with l records acks (lent_lengths table send_pool receive_pool acks) receive_pool (length buffer)) l records acks buffer a l'
     buffer'
 
 -- what the checks of 7 and 13 have established
 pub record Readable (l : Link) (pool : List ℕ) : Type 0 where
-  pub counts : countsFit l ≡ true
-  pub mss-low : mss l.settings < 2 ^ 16
-  pub inside : InPool (mss l.settings) pool (heldIn l.ready l.arrival.ready)
+  pub counts : counts_fit l ≡ true
+  pub mss_low : mss l.settings < 2 ^ 16
+  pub inside : InPool (mss l.settings) pool (held_in l.ready l.arrival.ready)
 
 -- a refusal: its number alone, the very half and buffer
 pub record NotRead (q : Refusal) (a : Arrival) (ready waiting numbers buffer : List ℕ) (answer : Count) (r : Arrival)
     (ready' waiting' numbers' buffer' : List ℕ) : Type 0 where
   pub answered : answer ≡ Refused q
   pub arrival : r ≡ a
-  pub ready-same : ready' ≡ ready
-  pub waiting-same : waiting' ≡ waiting
-  pub numbers-same : numbers' ≡ numbers
+  pub ready_same : ready' ≡ ready
+  pub waiting_same : waiting' ≡ waiting
+  pub numbers_same : numbers' ≡ numbers
   pub bytes_same : buffer' ≡ buffer
 
 -- by the size of the message, where there is room for it

@@ -1,18 +1,18 @@
 // Reading a message, telling its size, and showing its first segment: the block's numbers by value, its lists and the other parts lent.
 // Each is given whether the block is sound and whether the records of its outstanding segments fit, and checks 7, then 13, then its own.
 ghost use Rattle.std.specs.Prelude.{◌≡◌, ◌+◌, ◌*◌, ◌≤◌, ◌<◌, ◌^◌, length, take, drop};
-ghost use Rattle.protocol.specs.Protocol.{receiveSlots};
-ghost use Rattle.words.specs.Words.{heldIn};
+ghost use Rattle.protocol.specs.Protocol.{receive_slots};
+ghost use Rattle.words.specs.Words.{held_in};
 ghost use Rattle.control.specs.Views.{arrays, link_of, Whole};
 ghost use Rattle.checking.specs.Verdicts.{Flies, ByFlown, Sounds};
-ghost use Rattle.promises.specs.Answers.{countOutcome};
-ghost use Rattle.promises.specs.Outcomes.{tellsWith, showsWith};
-ghost use Rattle.promises.specs.Parts.{lentLengths};
+ghost use Rattle.promises.specs.Answers.{count_outcome};
+ghost use Rattle.promises.specs.Outcomes.{tells_with, shows_with};
+ghost use Rattle.promises.specs.Parts.{lent_lengths};
 ghost use Rattle.arriving.specs.Arrivals.{WholeLists, Fits};
-ghost use Rattle.deliver.specs.Messages.{InSlots, InPool, fittingOf};
+ghost use Rattle.deliver.specs.Messages.{InSlots, InPool, fitting_of};
 ghost use Rattle.read_core.specs.Messages.{ReadOver, ReadMessage};
 ghost use Rattle.promises.specs.Promises.{place_of, LiesAt, ShowsPart};
-ghost use Rattle.read_core.specs.Places.{frontOutcome, PlaceIs};
+ghost use Rattle.read_core.specs.Places.{front_outcome, PlaceIs};
 
 use answers::Count;
 use checking::Verdict;
@@ -45,8 +45,8 @@ fn read_message(
     buffer: &mut [u8],
 ) -> Delivered
     requires { WholeLists ready.old waiting.old numbers.old × Fits arrival
-        × InPool mss pool.now (heldIn ready.old arrival.ready) }
-    ensures { ReadMessage (fittingOf (heldIn ready.old arrival.ready) (length buffer.old))
+        × InPool mss pool.now (held_in ready.old arrival.ready) }
+    ensures { ReadMessage (fitting_of (held_in ready.old arrival.ready) (length buffer.old))
         arrival mss ready.old waiting.old numbers.old pool.now buffer.old
         result.answer result.arrival ready.new waiting.new numbers.new buffer.new }
 {
@@ -156,10 +156,10 @@ pub fn size(
         transmissions.now ready.now waiting.now waiting_numbers.now)) sound }
     ensures { ByFlown (link_of settings flight arrival clock (arrays queued.now outstanding.now
         transmissions.now ready.now waiting.now waiting_numbers.now)) flown (λ records.
-        countOutcome result ≡ tellsWith
+        count_outcome result ≡ tells_with
         (link_of settings flight arrival clock (arrays queued.now outstanding.now transmissions.now
         ready.now waiting.now waiting_numbers.now))
-        records acks.now (lentLengths table send_pool.now receive_pool.now acks.now)) }
+        records acks.now (lent_lengths table send_pool.now receive_pool.now acks.now)) }
 {
     let lent = Lengths {
         send: send_pool.len(),
@@ -177,8 +177,8 @@ pub fn size(
 
 // Where the front segment's payload lies; 0 and 0 where no message can be read.
 fn front_place(mss: usize, ready: &[u32; 128], n: usize) -> Place
-    requires { (length ready.now ≡ 128) × (n ≤ 128) × InSlots mss (heldIn ready.now n) × (mss < 2 ^ 16) }
-    ensures { PlaceIs (place_of (frontOutcome mss (heldIn ready.now n))) (receiveSlots * mss) result }
+    requires { (length ready.now ≡ 128) × (n ≤ 128) × InSlots mss (held_in ready.now n) × (mss < 2 ^ 16) }
+    ensures { PlaceIs (place_of (front_outcome mss (held_in ready.now n))) (receive_slots * mss) result }
 {
     if deliver::readable(ready, n) {
         let word = ready[0];
@@ -218,10 +218,10 @@ pub fn locate(
         transmissions.now ready.now waiting.now waiting_numbers.now)) sound }
     ensures { ByFlown (link_of settings flight arrival clock (arrays queued.now outstanding.now
         transmissions.now ready.now waiting.now waiting_numbers.now)) flown (λ records.
-        PlaceIs (place_of (showsWith
+        PlaceIs (place_of (shows_with
         (link_of settings flight arrival clock (arrays queued.now outstanding.now transmissions.now
         ready.now waiting.now waiting_numbers.now))
-        records acks.now (lentLengths table send_pool.now receive_pool.now acks.now)))
+        records acks.now (lent_lengths table send_pool.now receive_pool.now acks.now)))
         (length receive_pool.now) result) }
 {
     let lent = Lengths {
@@ -275,10 +275,10 @@ pub fn show<'a>(
         transmissions.now ready.now waiting.now waiting_numbers.now)) sound }
     ensures { ByFlown (link_of settings flight arrival clock (arrays queued.now outstanding.now
         transmissions.now ready.now waiting.now waiting_numbers.now)) flown (λ records.
-        ShowsPart (showsWith
+        ShowsPart (shows_with
         (link_of settings flight arrival clock (arrays queued.now outstanding.now transmissions.now
         ready.now waiting.now waiting_numbers.now))
-        records acks.now (lentLengths table send_pool.now receive_pool.now acks.now))
+        records acks.now (lent_lengths table send_pool.now receive_pool.now acks.now))
         receive_pool.entry.ptr receive_pool.now result.ref_ptr result.now) }
 {
     let place = locate(

@@ -7,17 +7,17 @@ use Prim.Native.Nat.{ℕ, ◌+◌, ◌≤◌, ◌<◌, ◌^◌}
 use lib.Dec.{eqb}
 use lib.ListN.{length}
 use Rattle.wire.specs.declared.Header.{Header}
-use Rattle.session.specs.Input.{heardByReceiving}
+use Rattle.session.specs.Input.{heard_by_receiving}
 use Rattle.control.specs.Views.{is_set}
 use Rattle.control.specs.declared.Arrival.{Arrival}
 use Rattle.arriving.specs.Arrivals.{lists_of, WholeLists}
 use Rattle.keeping.specs.Keeping.{Keepable, Kept}
-use Rattle.receive.specs.Halves.{Half, half_of, receiverOf, segmentAt, Sound, HalfIs}
+use Rattle.receive.specs.Halves.{Half, half_of, receiver_of, segment_at, Sound, HalfIs}
 use Rattle.receive.specs.Pushes.{Noted, Marked, Pushable, Heard}
-use Rattle.receive.proofs.Steps.{pushed-is, heard-other}
+use Rattle.receive.proofs.Steps.{pushed_is, heard_other}
 
-abbrev withNoted : Arrival → ℕ → Arrival
-withNoted a n = record { expected = a.expected; tell = a.tell; ready = a.ready; waiting = a.waiting; acks = n }
+abbrev with_noted : Arrival → ℕ → Arrival
+with_noted a n = record { expected = a.expected; tell = a.tell; ready = a.ready; waiting = a.waiting; acks = n }
 
 module _ (a : Arrival) (r w ns marks : List ℕ) (k m : ℕ) (s : List ℕ) (start : ℕ) (h : Header) (pool acks : List ℕ)
     (p : Pushable (half_of a r w ns) marks k m s start h pool acks) where
@@ -35,19 +35,19 @@ module _ (a : Arrival) (r w ns marks : List ℕ) (k m : ℕ) (s : List ℕ) (sta
         inside = p.inside;
         fits = p.fits;
         slots = u.slots;
-        mss-low = u.mss-low;
+        mss_low = u.mss_low;
       }
 
   -- what it leaves; the whole arrays say which they are
   pub heard : a.expected < 2 ^ 32 → h.sn < 2 ^ 32 → (n : ℕ) (acks' : List ℕ) → Noted a.expected h acks a.acks acks' n
       → (x : Arrival) (r' w' ns' : List ℕ) → WholeLists r' w' ns' → (pool' : List ℕ) (k' : ℕ)
-      → Kept (withNoted a n) (lists_of a r w ns) m s start h pool marks x (lists_of x r' w' ns') pool' k'
+      → Kept (with_noted a n) (lists_of a r w ns) m s start h pool marks x (lists_of x r' w' ns') pool' k'
       → Heard (half_of a r w ns) marks m s start h pool acks (half_of x r' w' ns') k' pool' acks'
-  heard next_low sn-low n acks' noted x r' w' ns' whole pool' k' kept =
+  heard next_low sn_low n acks' noted x r' w' ns' whole pool' k' kept =
       record {
         marked = record { whole = p.marked.whole; free = kept.free };
-        is = rw (kept.same-acks, kept.same-tell)
-            (pushed-is m (lists_of a r w ns) a.acks (is_set a.tell) acks pool h p.sound next_low sn-low s start n acks' noted
+        is = rw (kept.same_acks, kept.same_tell)
+            (pushed_is m (lists_of a r w ns) a.acks (is_set a.tell) acks pool h p.sound next_low sn_low s start n acks' noted
             (lists_of x r' w' ns') kept.is pool' kept.stored);
       }
 
@@ -60,10 +60,10 @@ pub pushable : (half : Half) (marks : List ℕ) (k m : ℕ) (s : List ℕ) (star
 pushable half marks k m s start h pool acks n e u d i f = rw e (record { sound = u; marked = d; inside = i; fits = f })
 
 -- not a push: a tell may be wanted
-pub heard-asked : (m : ℕ) (a : Arrival) (r w ns acks pool s : List ℕ) (start : ℕ) (h : Header) (tell : ℕ)
+pub heard_asked : (m : ℕ) (a : Arrival) (r w ns acks pool s : List ℕ) (start : ℕ) (h : Header) (tell : ℕ)
     → is_set tell ≡ (is_set a.tell || eqb h.cmd 83) → (h.cmd ≡ 81 → ⊥)
     → Sound (half_of a r w ns) m acks pool → a.expected < 2 ^ 32
     → HalfIs m (half_of a r w ns) (half_of (record
     { expected = a.expected; tell = tell; ready = a.ready; waiting = a.waiting; acks = a.acks }) r w ns) acks acks pool
-    (heardByReceiving m (receiverOf (half_of a r w ns) acks pool) (segmentAt s start h))
-heard-asked m a r w ns acks pool s start h tell e n u low = rw e (heard-other m (half_of a r w ns) acks pool s start h n u low)
+    (heard_by_receiving m (receiver_of (half_of a r w ns) acks pool) (segment_at s start h))
+heard_asked m a r w ns acks pool s start h tell e n u low = rw e (heard_other m (half_of a r w ns) acks pool s start h n u low)

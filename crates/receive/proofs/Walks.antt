@@ -9,15 +9,15 @@ use lib.Seq.{drop-drop}
 use Rattle.protocol.specs.Ranges.{mss}
 use Rattle.protocol.specs.declared.Settings.{Settings}
 use Rattle.wire.specs.declared.Header.{Header}
-use Rattle.datagram.specs.Datagrams.{Segment, parse, segments, stepAt}
+use Rattle.datagram.specs.Datagrams.{Segment, parse, segments, step_at}
 use Rattle.datagram.specs.StepLaws.{Begun, Remaining, Took, took, ended}
 use Rattle.datagram.specs.declared.Step.TheVariants as step
-use Rattle.session.specs.Input.{heardByReceiving, allByReceiving}
-use Rattle.receive.specs.Halves.{Half, receiverOf, segmentAt, Sound, HalfIs, HearsAll}
+use Rattle.session.specs.Input.{heard_by_receiving, all_by_receiving}
+use Rattle.receive.specs.Halves.{Half, receiver_of, segment_at, Sound, HalfIs, HearsAll}
 
 -- what agrees from an index on agrees from a later one on
-drop-further : {A : Type 0} (l m : List A) (i j : ℕ) → i ≤ j → drop i l ≡ drop i m → drop j l ≡ drop j m
-drop-further l m i j h e =
+drop_further : {A : Type 0} (l m : List A) (i j : ℕ) → i ≤ j → drop i l ≡ drop i m → drop j l ≡ drop j m
+drop_further l m i j h e =
     let q : j ≡ i + (j - i) = omega arith in
     rw q (sym (drop-drop (j - i) i l) ∙ ap (drop (j - i)) e ∙ drop-drop (j - i) i m)
 
@@ -28,7 +28,7 @@ module _ (c : Settings) (s : List ℕ) (h₀ : Half) (acks₀ pool₀ : List ℕ
     pub rest : List Segment
     pub parsed : parse c.conv (mss c) s ≡ segments all
     pub remaining : Remaining c.conv (mss c) s at rest
-    pub receiving : allByReceiving (mss c) (receiverOf h acks pool) rest ≡ allByReceiving (mss c) (receiverOf h₀ acks₀ pool₀) all
+    pub receiving : all_by_receiving (mss c) (receiver_of h acks pool) rest ≡ all_by_receiving (mss c) (receiver_of h₀ acks₀ pool₀) all
     pub more : h₀.acks ≤ h.acks
     pub beyond : drop (2 * h.acks) acks ≡ drop (2 * h.acks) acks₀
     pub sound : Sound h (mss c) acks pool
@@ -50,43 +50,43 @@ module _ (c : Settings) (s : List ℕ) (h₀ : Half) (acks₀ pool₀ : List ℕ
 
   module _ (h : Half) (acks pool : List ℕ) (at : ℕ) (w : Walking h acks pool at) where
     -- the next segment
-    module _ (header : Header) (start next : ℕ) (e : stepAt s at ≡ step.Segment header start next) where
+    module _ (header : Header) (start next : ℕ) (e : step_at s at ≡ step.Segment header start next) where
       first : Took c.conv (mss c) s at w.rest header start next
       first = took c.conv (mss c) s at w.rest w.remaining header start next e
 
-      pub walking-inside : start + header.len ≤ length s
-      walking-inside = omega (arith, first.starts, first.follows, first.inside)
+      pub walking_inside : start + header.len ≤ length s
+      walking_inside = omega (arith, first.starts, first.follows, first.inside)
 
-      pub walking-fits : header.cmd ≡ 81 → header.len ≤ mss c
-      walking-fits = first.passed.payload
+      pub walking_fits : header.cmd ≡ 81 → header.len ≤ mss c
+      walking_fits = first.passed.payload
 
-      pub walking-less : length s - next < length s - at
-      walking-less = omega (arith, first.follows, first.inside)
+      pub walking_less : length s - next < length s - at
+      walking_less = omega (arith, first.follows, first.inside)
 
-      pub walking-more : (h' : Half) (acks' pool' : List ℕ)
-          → HalfIs (mss c) h h' acks acks' pool' (heardByReceiving (mss c) (receiverOf h acks pool) (segmentAt s start header))
+      pub walking_more : (h' : Half) (acks' pool' : List ℕ)
+          → HalfIs (mss c) h h' acks acks' pool' (heard_by_receiving (mss c) (receiver_of h acks pool) (segment_at s start header))
           → Walking h' acks' pool' next
-      unfolding allByReceiving
-      walking-more h' acks' pool' d = record {
+      unfolding all_by_receiving
+      walking_more h' acks' pool' d = record {
         all = w.all;
         rest = first.others;
         parsed = w.parsed;
         remaining = first.remaining;
         receiving = rw d.is (rw first.whole at w.receiving);
         more = omega (arith, w.more, d.more);
-        beyond = d.beyond ∙ drop-further acks acks₀ (2 * h.acks) (2 * h'.acks) (omega (arith, d.more)) w.beyond;
+        beyond = d.beyond ∙ drop_further acks acks₀ (2 * h.acks) (2 * h'.acks) (omega (arith, d.more)) w.beyond;
         sound = d.sound;
         low = d.low;
       }
 
     -- none is left
-    module _ (e : stepAt s at ≡ step.End) where
+    module _ (e : step_at s at ≡ step.End) where
       none : w.rest ≡ []
       none = ended c.conv (mss c) s at w.rest w.remaining e
 
-      heard_all : HalfIs (mss c) h₀ h acks₀ acks pool (allByReceiving (mss c) (receiverOf h₀ acks₀ pool₀) w.all)
-      unfolding allByReceiving
+      heard_all : HalfIs (mss c) h₀ h acks₀ acks pool (all_by_receiving (mss c) (receiver_of h₀ acks₀ pool₀) w.all)
+      unfolding all_by_receiving
       heard_all = record { is = rw none at w.receiving; more = w.more; beyond = w.beyond; sound = w.sound; low = w.low }
 
-      pub walking-end : HearsAll c s h₀ acks₀ pool₀ h acks pool
-      walking-end gs p = let q = sym w.parsed ∙ p in let same : w.all ≡ gs = cc in rw same at heard_all
+      pub walking_end : HearsAll c s h₀ acks₀ pool₀ h acks pool
+      walking_end gs p = let q = sym w.parsed ∙ p in let same : w.all ≡ gs = cc in rw same at heard_all

@@ -4,9 +4,9 @@ use Rattle.std.specs.Prelude.{List, [], ◌∷◌, ℕ}
 use Rattle.timing.specs.declared.Record.{Record}
 
 -- each four words are a record: number, due time, timeout, skips
-unfoldable pub recordsIn : List ℕ → List Record
-recordsIn (number ∷ due ∷ timeout ∷ skips ∷ l) = record { number = number; due = due; timeout = timeout; skips = skips } ∷ recordsIn l
-recordsIn (a ∷ b ∷ c ∷ []) = []
-recordsIn (a ∷ b ∷ []) = []
-recordsIn (a ∷ []) = []
-recordsIn [] = []
+unfoldable pub records_in : List ℕ → List Record
+records_in (number ∷ due ∷ timeout ∷ skips ∷ l) = record { number = number; due = due; timeout = timeout; skips = skips } ∷ records_in l
+records_in (a ∷ b ∷ c ∷ []) = []
+records_in (a ∷ b ∷ []) = []
+records_in (a ∷ []) = []
+records_in [] = []

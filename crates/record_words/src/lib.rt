@@ -1,7 +1,7 @@
 // The records of the outstanding segments as numbers, so that they can be lent and changed in place: four words a record, in list order.
 ghost use Rattle.std.specs.Prelude.{◌≡◌, ◌<◌, length, get_or, set, replicate};
 ghost use Rattle.records.specs.Tables.{blank};
-ghost use Rattle.record_words.specs.RecordWords.{recordsIn};
+ghost use Rattle.record_words.specs.RecordWords.{records_in};
 
 use timing::Record;
 
@@ -15,7 +15,7 @@ pub fn none() -> [u32; 128]
 // The record at an index.
 pub fn at(records: &[u32; 128], i: usize) -> Record
     requires { (length records.now ≡ 128) × (i < 32) }
-    ensures { result ≡ get_or (recordsIn records.now) i blank }
+    ensures { result ≡ get_or (records_in records.now) i blank }
 {
     let j = 4 * i;
     Record {
@@ -30,7 +30,7 @@ pub fn at(records: &[u32; 128], i: usize) -> Record
 pub fn put(records: &mut [u32; 128], i: usize, updated: Record)
     requires { (length records.old ≡ 128) × (i < 32) }
     ensures { (length records.new ≡ 128)
-        × (recordsIn records.new ≡ set (recordsIn records.old) i updated) }
+        × (records_in records.new ≡ set (records_in records.old) i updated) }
 {
     let j = 4 * i;
     records[j] = updated.number;

@@ -1,7 +1,7 @@
 -- A call in a walk, for any callee: what the callee asks is made of one item of the context, and what is known once it has returned is
--- plain facts.     calls-fn     the item i gives the callee's `pre`. After the call: the tokens are back, and what is said of the
+-- plain facts.     calls_fn     the item i gives the callee's `pre`. After the call: the tokens are back, and what is said of the
 -- parameters' last values; the result r, at the machine value w, has its type's relation, and the callee's `ensures` says φ     plainly
---  a callee whose parameters are plain data, with no `requires`: its `pre` is had for nothing     lent-first   a callee whose first
+--  a callee whose parameters are plain data, with no `requires`: its `pre` is had for nothing     lent_first   a callee whose first
 -- parameter is lent, and whose others are plain: its `pre` is made of the token and of what the reference owns It says nothing of the
 -- crate, and can be copied as it stands. Assumes `Logic`.
 use Prim.Native.Nat.{ℕ}
@@ -58,7 +58,7 @@ module _ {M : Type 1} {𝓤 : Ura M} {𝓛 : Logic 𝓤} {K : Type 0} {Γ : List
     {C : Calls 𝓤 𝓛.H} {f : Name} {xs : List Operand} {Λ : Loops 𝓤 𝓛.H} {q : Post 𝓤 𝓛.H} {d : Place} {rest : Body} where
   open 𝓛 use {H}
 
-  pub calls-fn : K → FmC 𝓤 H 𝓛.laws C → (T : Ended) (c : Clauses 𝓤 T)
+  pub calls_fn : K → FmC 𝓤 H 𝓛.laws C → (T : Ended) (c : Clauses 𝓤 T)
       → Triple 𝓤 (C f) (triple_of 𝓛 T.signature (closing 𝓛 T c)) → (y : (triple_of 𝓛 T.signature (closing 𝓛 T c)).Ghost)
       → (φ : Res T.signature y.0.0 → Lasts T y.0.0 y.0.3 → Type 0) (i : Item 𝓤)
       → ent 𝓤 (mean 𝓛 i) ((triple_of 𝓛 T.signature (closing 𝓛 T c)).pre y)
@@ -70,7 +70,7 @@ module _ {M : Type 1} {𝓤 : Ura M} {𝓛 : Logic 𝓤} {K : Type 0} {Γ : List
       → Is (type_at T.signature.result y.0.0) r (w ∷ [])
       → Seq K 𝓛 (raw (alive 𝓛 T.signature y.0.0 y.0.1) ∷ ‵ (lasts T y.0.0 y.0.3 ws) ∷ Γ) (lands C Λ E d w rest q))
       → Seq K 𝓛 (i ∷ Γ) (runs C Λ E (seq (call f xs d) rest) q)
-  calls-fn t fm T c known y φ i ready says-φ os k =
+  calls_fn t fm T c known y φ i ready says-φ os k =
       use1 𝓛 (raw ((triple_of 𝓛 T.signature (closing 𝓛 T c)).pre y)) ready $
       calls_at t fm (triple_of 𝓛 T.signature (closing 𝓛 T c)) known y os (λ w.
       use1 𝓛 (later (some (λ (r : Res T.signature y.0.0).
@@ -92,10 +92,10 @@ module _ {M : Type 1} {𝓤 : Ura M} (𝓛 : Logic 𝓤) (Rs : List RattleType) 
   plainly = qed 𝓛 [] ∵ nothing ! $ use0 𝓛 (‵ (owns Rs a vss)) (owns_make 𝓛 Rs (Ises Rs) mk a vss are) $ nothing ! $ join ! $ done !
 
   -- what a callee asks whose first parameter is lent and whose others are plain
-  pub lent-first : (R : RattleType) (x : R.Denot) (vs : List Val) (κ : Lft) (q : Share)
+  pub lent_first : (R : RattleType) (x : R.Denot) (vs : List Val) (κ : Lft) (q : Share)
       → ent 𝓤 (sep 𝓤 (A.lft κ q) (sem 𝓛 (R.own x vs)))
       (sep 𝓤 (sep 𝓤 (sep 𝓤 (A.lft κ q) (emp 𝓤)) (sem 𝓛 (fsep (R.own x vs) (owns Rs a vss)))) (emp 𝓤))
-  lent-first R x vs κ q =
+  lent_first R x vs κ q =
       qed 𝓛 (‵ (flft κ q) ∷ ‵ (R.own x vs) ∷ []) ∵ nothing ! $ move ! (1 ∷ 0 ∷ []) $ join ! $
       use0 𝓛 (‵ (owns Rs a vss)) (owns_make 𝓛 Rs (Ises Rs) mk a vss are) $
       move ! (2 ∷ 0 ∷ []) $ fjoin ! $ move ! (1 ∷ 0 ∷ []) $ join ! $ nothing ! $ move ! (1 ∷ 0 ∷ []) $ done !

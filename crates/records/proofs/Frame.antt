@@ -5,7 +5,7 @@ use Prim.Native.Nat.{ℕ}
 use mathlib.Core.List.{List, [], ◌∷◌}
 use mir.Syntax.{Ty, Local, local}
 
-abbrev pub envOf : List Local → List ℕ → List (Ty × ℕ)
-envOf [] ls = []
-envOf (local τ h ∷ vs) [] = []
-envOf (local τ h ∷ vs) (l ∷ ls) = (τ, l) ∷ envOf vs ls
+abbrev pub env_of : List Local → List ℕ → List (Ty × ℕ)
+env_of [] ls = []
+env_of (local τ h ∷ vs) [] = []
+env_of (local τ h ∷ vs) (l ∷ ls) = (τ, l) ∷ env_of vs ls

@@ -1,6 +1,6 @@
 -- One record of a lent table, as steps of a walk (`Types/Kit.antt`'s calculus): it is taken out of the slice, and put back.
---     looks-record, shuts_record    of a `&κ [Record]`: some share of the record's cell, to be read, and back
---     opens-record, closes-record   of a `&κ mut [Record]`: the record's cell, to be stored to, and the slice with the new record in it
+--     looks_record, shuts_record    of a `&κ [Record]`: some share of the record's cell, to be read, and back
+--     opens_record, closes_record   of a `&κ mut [Record]`: the record's cell, to be stored to, and the slice with the new record in it
 -- And what is known of the machine value of a record.
 -- Assumes `Logic`.
 use mathlib.Core.Path.{◌≡◌, sym, ap, subst, ◌∙◌}
@@ -70,11 +70,11 @@ module _ (b o : ℕ) (γ : GName) where
       (fobs γ ((coded_holeys R).code (heres R ys)))) (fauth γ ((coded_holeys R).code (heres R ys)))
 
   module _ {M : Type 1} {𝓤 : Ura M} {𝓛 : Logic 𝓤} {K : Type 0} {Γ : List (Item 𝓤)} {G : Goal 𝓤 𝓛.H} where
-    pub looks-record : K → Soaks G → {κ : Lft} {q : Share} (ys : List Record) (n i : ℕ) → i < length ys
+    pub looks_record : K → Soaks G → {κ : Lft} {q : Share} (ys : List Record) (n i : ℕ) → i < length ys
         → ((q' : Share) → Is R (get_or ys i blank) (mach (get_or ys i blank) ∷ [])
         → Seq K 𝓛 (‵ (cell_at q' R.mir (mach (get_or ys i blank) ∷ []) b (place 16 o i)) ∷ ‵ (Seen κ q q' ys n i) ∷ Γ) G)
         → Seq K 𝓛 (‵ ((ShrSlice (named 0) κ R).own_val (ref ys) (slice_val (b, o) n ∷ [])) ∷ ‵ (flft κ q) ∷ Γ) G
-    looks-record t z ys n i l k = fsplit t $ move t (1 ∷ []) $ fsplit t $ move t (1 ∷ 3 ∷ []) $
+    looks_record t z ys n i l k = fsplit t $ move t (1 ∷ []) $ fsplit t $ move t (1 ∷ 3 ∷ []) $
         looks_slice t z R (Is R) (shows 𝓛 R) (LL.vals T.the_type T'.the_laws) (LL.tells T.the_type T'.the_laws)
         (LL.copy T.the_type T'.the_copy 𝓛) ys b o (λ q'.
         elem_out t R (Is R) (shows 𝓛 R) (LL.vals T.the_type T'.the_laws) (LL.tells T.the_type T'.the_laws) q' ys i blank b o l (λ g.
@@ -88,19 +88,19 @@ module _ (b o : ℕ) (γ : GName) where
         elem_back t R q' ys i blank (mach (get_or ys i blank) ∷ []) b o l $ shuts_slice t z R q' ys b o $ move t (2 ∷ 1 ∷ []) $ fjoin t $
         move t (2 ∷ 0 ∷ []) $ fjoin t $ s)
 
-    pub opens-record : K → Soaks G → {κ : Lft} {q : Share} (ys : List Record) (n i : ℕ) → i < length ys
+    pub opens_record : K → Soaks G → {κ : Lft} {q : Share} (ys : List Record) (n i : ℕ) → i < length ys
         → Step K 𝓛 (‵ (cell_at full_share R.mir (mach (get_or ys i blank) ∷ []) b (place 16 o i)) ∷ ‵ (Open κ q ys i) ∷ Γ) G
         (‵ ((MutSlice (named 0) κ R).own_val (ref ys) (slice_val (b, o) n ∷ [])) ∷ ‵ (flft κ q) ∷ Γ) G
-    opens-record t z ys n i l = step (λ s. fsplit t $ drop t $ fsplit t $ opens_slice t z R ys b o $
+    opens_record t z ys n i l = step (λ s. fsplit t $ drop t $ fsplit t $ opens_slice t z R ys b o $
         elem_out t R (Is R) (shows 𝓛 R) (LL.vals T.the_type T'.the_laws) (LL.tells T.the_type T'.the_laws) full_share ys i blank b o l
         (λ _.
         move t (1 ∷ []) $ drop t $ move t (1 ∷ 2 ∷ 3 ∷ 4 ∷ []) $ fjoin t $ fjoin t $ fjoin t $ move t (1 ∷ 0 ∷ []) $ s))
 
-    pub closes-record : K → Soaks G → {κ : Lft} {q : Share} (ys : List Record) (n i : ℕ) → i < length ys → length ys ≡ n → Room R n
+    pub closes_record : K → Soaks G → {κ : Lft} {q : Share} (ys : List Record) (n i : ℕ) → i < length ys → length ys ≡ n → Room R n
         → (v : Record) → Is R v (mach v ∷ [])
         → Step K 𝓛 (‵ ((MutSlice (named 0) κ R).own_val (ref (set ys i v)) (slice_val (b, o) n ∷ [])) ∷ ‵ (flft κ q) ∷ Γ) G
         (‵ (cell_at full_share R.mir (mach v ∷ []) b (place 16 o i)) ∷ ‵ (Open κ q ys i) ∷ Γ) G
-    closes-record t z ys n i l e room v g = step (λ s. move t (1 ∷ []) $ fsplit t $ fsplit t $ fsplit t $ move t (4 ∷ []) $
+    closes_record t z ys n i l e room v g = step (λ s. move t (1 ∷ []) $ fsplit t $ fsplit t $ fsplit t $ move t (4 ∷ []) $
         owned t R (Is R) (makes 𝓛) v (mach v ∷ []) g $ move t (1 ∷ 0 ∷ []) $ elem_put t R full_share ys i v (mach v ∷ []) b o l $
         closes_slice t z R ys (set ys i v) (length-set ys i v) b o $
         fjoin t $ pure_i t (mut_slice_at R (ref (set ys i v)) (slice_val (b, o) n ∷ [])) (tt, (tt, tt))

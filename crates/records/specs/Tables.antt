@@ -13,8 +13,8 @@ abbrev pub slots_of : List Outstanding → List ℕ
 slots_of = map (λ o. o.held.slot)
 
 -- the slots of the first n words of an array of 32
-abbrev pub slotsIn : List ℕ → ℕ → List ℕ
-slotsIn words n = map (λ w. w % 256) (take (min n 32) words)
+abbrev pub slots_in : List ℕ → ℕ → List ℕ
+slots_in words n = map (λ w. w % 256) (take (min n 32) words)
 
 -- the records at these slots, in their order
 abbrev pub gathered : List Record → List ℕ → List Record

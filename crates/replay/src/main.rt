@@ -1,6 +1,6 @@
 // Plays a script of link calls on standard input, and writes the answers.
 ghost use Rattle.std.specs.Prelude.{◌≡◌, ◌+◌, ◌≤◌, length, drop};
-ghost use Rattle.script.specs.Commands.{firstLine};
+ghost use Rattle.script.specs.Commands.{first_line};
 
 use bench::Bench;
 use libc::{STDIN_FILENO, STDOUT_FILENO};
@@ -22,7 +22,7 @@ const TEXT: usize = 140000;
 // Where the line that starts at `from` ends: its newline, or the end of the script.
 fn line_end(script: &[u8], from: usize) -> usize
     requires { from ≤ length script.now }
-    ensures { (result ≡ from + length (firstLine (drop from script.now))) × (from ≤ result) × (result ≤ length script.now) }
+    ensures { (result ≡ from + length (first_line (drop from script.now))) × (from ≤ result) × (result ≤ length script.now) }
 {
     let mut i = from;
     while i < script.len() {

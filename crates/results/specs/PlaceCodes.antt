@@ -3,10 +3,10 @@
 -- Assumes nothing.
 use Rattle.std.specs.Prelude.{ℕ, min, ℤ}
 use Rattle.read_core.specs.declared.Place.{Place}
-use Rattle.codes.specs.Codes.{sizeCode}
+use Rattle.codes.specs.Codes.{size_code}
 
-abbrev pub placeCode : Place → ℤ
-placeCode p = sizeCode p.count
+abbrev pub place_code : Place → ℤ
+place_code p = size_code p.count
 
-abbrev pub placeStart : Place → ℕ
-placeStart p = min p.start 4294967295
+abbrev pub place_start : Place → ℕ
+place_start p = min p.start 4294967295

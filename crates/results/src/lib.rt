@@ -1,7 +1,7 @@
 // The results of the cores, taken apart for the public calls: structs and records to be stored, and the number that C gets.
 ghost use Rattle.std.specs.Prelude.{◌≡◌, true, false};
-ghost use Rattle.codes.specs.Codes.{answerCode, countCode, updateCode};
-ghost use Rattle.results.specs.PlaceCodes.{placeCode, placeStart};
+ghost use Rattle.codes.specs.Codes.{answer_code, count_code, update_code};
+ghost use Rattle.results.specs.PlaceCodes.{place_code, place_start};
 
 use control::{Arrival, Clock, Flight};
 use flush_core::Flushed;
@@ -45,7 +45,7 @@ pub fn opened_clock(opened: Opened) -> Clock
 }
 
 pub fn opened_code(opened: Opened) -> i32
-    ensures { result ≡ answerCode opened.answer }
+    ensures { result ≡ answer_code opened.answer }
 {
     let answer = opened.answer;
     codes::answer_code(answer)
@@ -60,7 +60,7 @@ pub fn submitted_flight(submitted: Submitted) -> Flight
 }
 
 pub fn submitted_code(submitted: Submitted) -> i32
-    ensures { result ≡ answerCode submitted.answer }
+    ensures { result ≡ answer_code submitted.answer }
 {
     let answer = submitted.answer;
     codes::answer_code(answer)
@@ -87,7 +87,7 @@ pub fn taken_changed(taken: Taken) -> usize
 }
 
 pub fn taken_code(taken: Taken) -> i32
-    ensures { result ≡ answerCode taken.answer }
+    ensures { result ≡ answer_code taken.answer }
 {
     let answer = taken.answer;
     codes::answer_code(answer)
@@ -134,7 +134,7 @@ pub fn flushed_changed(flushed: Flushed) -> usize
 }
 
 pub fn flushed_code(flushed: Flushed) -> i32
-    ensures { result ≡ updateCode flushed.answer }
+    ensures { result ≡ update_code flushed.answer }
 {
     let answer = flushed.answer;
     codes::update_code(answer)
@@ -149,7 +149,7 @@ pub fn delivered_arrival(delivered: Delivered) -> Arrival
 }
 
 pub fn delivered_code(delivered: Delivered) -> i32
-    ensures { result ≡ countCode delivered.answer }
+    ensures { result ≡ count_code delivered.answer }
 {
     let answer = delivered.answer;
     codes::count_code(answer)
@@ -159,7 +159,7 @@ pub fn delivered_code(delivered: Delivered) -> i32
 
 // A place in the receive pool: its start is stored, its count is returned.
 pub fn tell_place(place: Place, start: &mut u32) -> i32
-    ensures { (result ≡ placeCode place) × (start.new ≡ placeStart place) }
+    ensures { (result ≡ place_code place) × (start.new ≡ place_start place) }
 {
     *start = codes::narrow32(place.start);
     codes::size_code(place.count)

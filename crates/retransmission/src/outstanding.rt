@@ -2,15 +2,15 @@
 // `own` is the timeout of the segment, `link` that of the link; `old` is the record before.
 ghost use Rattle.std.specs.Prelude.{◌≡◌};
 ghost use Rattle.retransmission.specs.Transmissions.{
-  firstDue,
-  firstTransmission,
+  first_due,
+  first_transmission,
   growth,
-  longerTimeout,
-  timedOut,
-  isSkipped,
-  fastTransmission,
+  longer_timeout,
+  timed_out,
+  is_skipped,
+  fast_transmission,
   counted,
-  sendingBy,
+  sending_by,
   skipped,
   transmission,
 };
@@ -21,7 +21,7 @@ use timing::Record;
 
 // When a segment that is sent at t for the first time is due: in mode 0 an eighth of the timeout later.
 fn first_due(mode: u8, link: u32, t: u32) -> u32
-    ensures { result ≡ firstDue mode link t }
+    ensures { result ≡ first_due mode link t }
 {
     if mode == 0 {
         serial::sum(serial::sum(t, link), link / 8)
@@ -32,7 +32,7 @@ fn first_due(mode: u8, link: u32, t: u32) -> u32
 
 // The record of a segment that was never sent, sent at t.
 fn first_transmission(mode: u8, link: u32, t: u32, old: Record) -> Record
-    ensures { result ≡ firstTransmission mode link t old }
+    ensures { result ≡ first_transmission mode link t old }
 {
     Record {
         number: old.number,
@@ -57,7 +57,7 @@ fn growth(mode: u8, own: u32, link: u32) -> u32
 
 // The timeout of a segment that is due.
 fn longer_timeout(mode: u8, own: u32, link: u32) -> u32
-    ensures { result ≡ longerTimeout mode own link }
+    ensures { result ≡ longer_timeout mode own link }
 {
     let more = growth(mode, own, link);
     number::sum_to(Protocol::TIMEOUT_MOST, own, more)
@@ -65,7 +65,7 @@ fn longer_timeout(mode: u8, own: u32, link: u32) -> u32
 
 // The record of a segment that is due, sent at t.
 fn timed_out(mode: u8, link: u32, t: u32, old: Record) -> Record
-    ensures { result ≡ timedOut mode link t old }
+    ensures { result ≡ timed_out mode link t old }
 {
     let timeout = longer_timeout(mode, old.timeout, link);
     Record {
@@ -78,14 +78,14 @@ fn timed_out(mode: u8, link: u32, t: u32, old: Record) -> Record
 
 // Whether a segment has been skipped often enough, and sent seldom enough, to be sent before it is due.
 fn is_skipped(threshold: u8, transmissions: u8, skips: u32) -> bool
-    ensures { result ≡ isSkipped threshold transmissions skips }
+    ensures { result ≡ is_skipped threshold transmissions skips }
 {
     (0 < threshold) & (threshold as u32 <= skips) & (transmissions <= Protocol::FAST_MOST)
 }
 
 // The record of a segment that was skipped, sent at t.
 fn fast_transmission(t: u32, old: Record) -> Record
-    ensures { result ≡ fastTransmission t old }
+    ensures { result ≡ fast_transmission t old }
 {
     Record {
         number: old.number,
@@ -108,7 +108,7 @@ fn counted(transmissions: u8) -> u8
 
 // A segment that is sent, late, fast or for the first time, with the record that it gets.
 fn sending(late: bool, fast: bool, transmissions: u8, updated: Record) -> Transmission
-    ensures { result ≡ sendingBy late fast transmissions updated }
+    ensures { result ≡ sending_by late fast transmissions updated }
 {
     Transmission {
         sends: true,

@@ -6,7 +6,7 @@ use native.Mathlib.Omega.{arith}
 use Rattle.std.proofs.lemmas.Bool.{eqb-false}
 use Rattle.std.proofs.Math.ListN.{length, get_or-eq_default}
 use Rattle.galois.specs.Field.{plus, double}
-use Rattle.galois.specs.FieldLaws.{plus-zero}
+use Rattle.galois.specs.FieldLaws.{plus_zero}
 use Rattle.rows.specs.Rows.{Row, behind, stepped}
 
 -- the bytes below i are f's, the others as they were
@@ -38,8 +38,8 @@ module _ (f : ℕ → ℕ) where
   done_all i was row d l = record { size = d.size; byte = λ x m. d.done x (omega arith) }
 
   -- from i on f says what was there
-  pub done-part : (i : ℕ) (was row : List ℕ) → Done f i was row → ((x : ℕ) → i ≤ x → get_or was x 0 ≡ f x) → Row f (length was) row
-  done-part i was row d h = record { size = d.size; byte = λ x m. go x (ltb x i) refl }
+  pub done_part : (i : ℕ) (was row : List ℕ) → Done f i was row → ((x : ℕ) → i ≤ x → get_or was x 0 ≡ f x) → Row f (length was) row
+  done_part i was row d h = record { size = d.size; byte = λ x m. go x (ltb x i) refl }
     where
       go : (x : ℕ) (b : Bool) → ltb x i ≡ b → get_or row x 0 ≡ f x
       go x true e = d.done x (ltb-true x i e)
@@ -54,11 +54,11 @@ sum was at l x = plus (get_or was x 0) (behind at l x)
 module _ (was : List ℕ) (at : ℕ) (l : List ℕ) where
   sum_below : (x : ℕ) → x < at → get_or was x 0 ≡ sum was at l x
   unfolding behind
-  sum_below x h = rw (lt-ltb x at h) (sym (plus-zero (get_or was x 0)))
+  sum_below x h = rw (lt-ltb x at h) (sym (plus_zero (get_or was x 0)))
 
-  pub sum-at : (i : ℕ) → plus (get_or was (at + i) 0) (get_or l i 0) ≡ sum was at l (at + i)
+  pub sum_at : (i : ℕ) → plus (get_or was (at + i) 0) (get_or l i 0) ≡ sum was at l (at + i)
   unfolding behind
-  sum-at i =
+  sum_at i =
       let e : at + i - at ≡ i = omega arith in
       rw (le-ltb (at + i) at (omega arith), e)
 
@@ -66,18 +66,18 @@ module _ (was : List ℕ) (at : ℕ) (l : List ℕ) where
   unfolding behind
   sum_past x h =
       let m : length l ≤ x - at = omega arith in
-      rw (le-ltb x at (omega arith), get_or-eq_default l 0 m) (sym (plus-zero (get_or was x 0)))
+      rw (le-ltb x at (omega arith), get_or-eq_default l 0 m) (sym (plus_zero (get_or was x 0)))
 
-  pub sum-none : Done (sum was at l) at was was
-  sum-none = record { size = refl; done = λ x h. sum_below x h; unchanged = λ x h. refl }
+  pub sum_none : Done (sum was at l) at was was
+  sum_none = record { size = refl; done = λ x h. sum_below x h; unchanged = λ x h. refl }
 
-  pub sum-all : (i : ℕ) (row : List ℕ) → Done (sum was at l) (at + i) was row → length l ≤ i → i ≤ length l
+  pub sum_all : (i : ℕ) (row : List ℕ) → Done (sum was at l) (at + i) was row → length l ≤ i → i ≤ length l
       → Row (sum was at l) (length was) row
-  sum-all i row d h g = done-part (sum was at l) (at + i) was row d (λ x m. sum_past x (omega arith))
+  sum_all i row d h g = done_part (sum was at l) (at + i) was row d (λ x m. sum_past x (omega arith))
 
 -- ---- steps
 
-pub stepped-second : (w v : ℕ) → (w ≡ 0 → ⊥) → stepped w v ≡ double v
+pub stepped_second : (w v : ℕ) → (w ≡ 0 → ⊥) → stepped w v ≡ double v
 unfolding stepped
-stepped-second zero v d = absurd (d refl)
-stepped-second (suc w) v d = refl
+stepped_second zero v d = absurd (d refl)
+stepped_second (suc w) v d = refl

@@ -8,12 +8,12 @@ use native.Mathlib.Omega.{arith}
 use lib.ListN.{length, take, drop, get_or}
 use lib.Seq.{take_all}
 use Rattle.timing.specs.declared.Record.{Record}
-use Rattle.lists.proofs.Loops.{view-next, view-end}
+use Rattle.lists.proofs.Loops.{view_next, view_end}
 use Rattle.schedule.specs.Schedules.{ahead, dues_of, earliest}
 
 -- no more are taken than there are
-pub take-held : (l : List Record) (n k : ℕ) → length l ≡ k → take (min n k) l ≡ take n l
-take-held l n k e = go (dec_le n k)
+pub take_held : (l : List Record) (n k : ℕ) → length l ≡ k → take (min n k) l ≡ take n l
+take_held l n k e = go (dec_le n k)
   where
     go : Dec (n ≤ k) → take (min n k) l ≡ take n l
     go (yes h) = let m : min n k ≡ n = omega arith in rw m
@@ -21,11 +21,11 @@ take-held l n k e = go (dec_le n k)
 
 module _ (now most n i : ℕ) (l : List Record) where
   -- with w, the least so far of `most` and the distance a of the next one
-  pub earliest-next : (d : Record) (a w : ℕ) → i < n → n ≤ length l → a ≡ ahead now (get_or l i d).due → w ≡ min most a
+  pub earliest_next : (d : Record) (a w : ℕ) → i < n → n ≤ length l → a ≡ ahead now (get_or l i d).due → w ≡ min most a
       → earliest now most (dues_of (drop i (take n l))) ≡ earliest now w (dues_of (drop (i + 1) (take n l)))
   unfolding earliest
-  earliest-next d a w h g e f = rw (view-next l n i d h g, f, e)
+  earliest_next d a w h g e f = rw (view_next l n i d h g, f, e)
 
-  pub earliest-end : n ≤ i → earliest now most (dues_of (drop i (take n l))) ≡ most
+  pub earliest_end : n ≤ i → earliest now most (dues_of (drop i (take n l))) ≡ most
   unfolding earliest
-  earliest-end h = rw (view-end l n i h)
+  earliest_end h = rw (view_end l n i h)

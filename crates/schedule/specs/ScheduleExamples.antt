@@ -1,8 +1,8 @@
 -- Worked examples of updates and checks, a table of each, proved by computing both sides.
 -- Assumes nothing.
 use Rattle.std.specs.Prelude.{◌≡◌, refl, true, false, List, [], ◌∷◌, map, ℕ, ◌+◌, ◌-◌, ◌^◌}
-use Rattle.protocol.specs.Serial.{signed, isDue}
-use Rattle.schedule.specs.Schedules.{isAstray, corrected, started, following, updated, ahead, earliest, named}
+use Rattle.protocol.specs.Serial.{signed, is_due}
+use Rattle.schedule.specs.Schedules.{is_astray, corrected, started, following, updated, ahead, earliest, named}
 use Rattle.schedule.specs.declared.Schedule.{Schedule}
 use Rattle.schedule.specs.declared.Updated.{Updated}
 
@@ -47,9 +47,9 @@ updates =
     ∷ record { is = updated (at (2 ^ 32 - 6)) 5 10; wanted = flushes 15 }
     ∷ []
 
-pub updates-hold : map (λ (c : UpdateCase). c.is) updates ≡ map (λ (c : UpdateCase). c.wanted) updates
-unfolding updates updated corrected started following isAstray isDue signed
-updates-hold = refl
+pub updates_hold : map (λ (c : UpdateCase). c.is) updates ≡ map (λ (c : UpdateCase). c.wanted) updates
+unfolding updates updated corrected started following is_astray is_due signed
+updates_hold = refl
 
 -- a check, and the time that it names
 pub record CheckCase : Type 0 where
@@ -79,6 +79,6 @@ checks =
     ∷ record { is = named (at 4) (2 ^ 32 - 6) 100 (2 ∷ []); wanted = 2 }
     ∷ []
 
-pub checks-hold : map (λ (c : CheckCase). c.is) checks ≡ map (λ (c : CheckCase). c.wanted) checks
-unfolding checks named earliest ahead corrected isAstray isDue signed
-checks-hold = refl
+pub checks_hold : map (λ (c : CheckCase). c.is) checks ≡ map (λ (c : CheckCase). c.wanted) checks
+unfolding checks named earliest ahead corrected is_astray is_due signed
+checks_hold = refl

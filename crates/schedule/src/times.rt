@@ -1,14 +1,14 @@
 // The schedule of flushes, moved on by each update and asked by each check.
 ghost use Rattle.std.specs.Prelude.{◌≡◌, ◌≤◌, min, length, take};
-ghost use Rattle.record_words.specs.RecordWords.{recordsIn};
-ghost use Rattle.schedule.specs.Schedules.{isAstray, corrected, started, following, updated, ahead, dues_of, earliest, named};
+ghost use Rattle.record_words.specs.RecordWords.{records_in};
+ghost use Rattle.schedule.specs.Schedules.{is_astray, corrected, started, following, updated, ahead, dues_of, earliest, named};
 
 use crate::{Schedule, Updated};
 use protocol::{Protocol, serial};
 
 // Whether now is 10,000 or more past the next flush time, or more than that before it.
 fn is_astray(now: u32, next: u32) -> bool
-    ensures { result ≡ isAstray now next }
+    ensures { result ≡ is_astray now next }
 {
     let apart = serial::read_signed(serial::difference(now, next));
     (Protocol::CLOCK_JUMP as i64 <= apart) | (apart < 0 - Protocol::CLOCK_JUMP as i64)
@@ -67,7 +67,7 @@ fn held(n: usize) -> usize
 // How long it is from t until the first of n segments is due, and no longer than most.
 fn earliest(t: u32, most: u32, records: &[u32; 128], n: usize) -> u32
     requires { (length records.now ≡ 128) × (n ≤ 32) }
-    ensures { result ≡ earliest t most (dues_of (take n (recordsIn records.now))) }
+    ensures { result ≡ earliest t most (dues_of (take n (records_in records.now))) }
 {
     let mut wait = most;
     let mut i: usize = 0;
@@ -105,7 +105,7 @@ impl Schedule {
     // one interval away; t itself before the first update.
     pub fn check(self, t: u32, interval: u16, records: &[u32; 128], n: usize) -> u32
         requires { length records.now ≡ 128 }
-        ensures { result ≡ named self t interval (dues_of (take n (recordsIn records.now))) }
+        ensures { result ≡ named self t interval (dues_of (take n (records_in records.now))) }
     {
         if !self.made {
             return t;

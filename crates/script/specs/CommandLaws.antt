@@ -16,96 +16,96 @@ use Rattle.notation.specs.declared.Bytes.{Bytes}
 use Rattle.notation.specs.declared.Bytes.TheVariants as bytes
 use Rattle.script.specs.declared.Command.TheVariants.{Malformed}
 use Rattle.script.specs.Commands.{
-  isOneOf,
-  fieldMost,
+  is_one_of,
+  field_most,
   up_to,
   word,
-  behindWord,
-  onFirst,
+  behind_word,
+  on_first,
   words,
   arguments,
-  oneMore,
-  numbersOf,
+  one_more,
+  numbers_of,
   letters,
-  ofOne,
-  ofTwo,
+  of_one,
+  of_two,
   of_four,
-  ofFive,
-  ofSix,
-  ofSeven,
-  ofNumbers,
-  withNumbers,
+  of_five,
+  of_six,
+  of_seven,
+  of_numbers,
+  with_numbers,
 }
 use Rattle.script.specs.Reading.{few}
 
 -- ---- words
 
 module _ (stop : ℕ) (l : List ℕ) (i : ℕ) where
-  pub up-to-next : i < length l → (get_or l i 0 ≡ stop → ⊥) → length (up_to stop (drop i l)) ≡ suc (length (up_to stop (drop (i + 1) l)))
+  pub up_to_next : i < length l → (get_or l i 0 ≡ stop → ⊥) → length (up_to stop (drop i l)) ≡ suc (length (up_to stop (drop (i + 1) l)))
   unfolding up_to
-  up-to-next h d = rw (drop-cons l i 0 h, add-one, ne_eqb (get_or l i 0) stop d)
+  up_to_next h d = rw (drop-cons l i 0 h, add-one, ne_eqb (get_or l i 0) stop d)
 
-  pub up-to-here : i < length l → get_or l i 0 ≡ stop → length (up_to stop (drop i l)) ≡ 0
+  pub up_to_here : i < length l → get_or l i 0 ≡ stop → length (up_to stop (drop i l)) ≡ 0
   unfolding up_to
-  up-to-here h e = rw (drop-cons l i 0 h, eq-eqb (get_or l i 0) stop e)
+  up_to_here h e = rw (drop-cons l i 0 h, eq-eqb (get_or l i 0) stop e)
 
-  pub up-to-end : length l ≤ i → length (up_to stop (drop i l)) ≡ 0
+  pub up_to_end : length l ≤ i → length (up_to stop (drop i l)) ≡ 0
   unfolding up_to
-  up-to-end h = rw (drop_of_length-le l h)
+  up_to_end h = rw (drop_of_length-le l h)
 
 -- ---- names
 
 module _ (w : List ℕ) (i n : ℕ) where
-  pub letters-next : i < length w → 256 * n + get_or w i 0 < 72057594037927936
+  pub letters_next : i < length w → 256 * n + get_or w i 0 < 72057594037927936
       → letters n (drop i w) ≡ letters (256 * n + get_or w i 0) (drop (i + 1) w)
   unfolding letters
-  letters-next h g = rw (drop-cons w i 0 h, add-one, lt-leb 72057594037927936 (256 * n + get_or w i 0) g)
+  letters_next h g = rw (drop-cons w i 0 h, add-one, lt-leb 72057594037927936 (256 * n + get_or w i 0) g)
 
-  pub letters-many : i < length w → 72057594037927936 ≤ 256 * n + get_or w i 0 → letters n (drop i w) ≡ 0
+  pub letters_many : i < length w → 72057594037927936 ≤ 256 * n + get_or w i 0 → letters n (drop i w) ≡ 0
   unfolding letters
-  letters-many h g = rw (drop-cons w i 0 h, le-leb 72057594037927936 (256 * n + get_or w i 0) g)
+  letters_many h g = rw (drop-cons w i 0 h, le-leb 72057594037927936 (256 * n + get_or w i 0) g)
 
-  pub letters-end : length w ≤ i → letters n (drop i w) ≡ n
+  pub letters_end : length w ≤ i → letters n (drop i w) ≡ n
   unfolding letters
-  letters-end h = rw (drop_of_length-le w h)
+  letters_end h = rw (drop_of_length-le w h)
 
 -- ---- the words of a line
 
 -- the first word is the front of the line
-pub word-front : (l : List ℕ) → take (length (word l)) l ≡ word l
+pub word_front : (l : List ℕ) → take (length (word l)) l ≡ word l
 unfolding up_to
-word-front [] = refl
-word-front (c ∷ l) = go (eqb c 32) (word-front l)
+word_front [] = refl
+word_front (c ∷ l) = go (eqb c 32) (word_front l)
   where
     go : (b : Bool) → take (length (word l)) l ≡ word l → take (length (cond b [] (c ∷ word l))) (c ∷ l) ≡ cond b [] (c ∷ word l)
     go true e = refl
     go false e = ap (λ (w : List ℕ). c ∷ w) e
 
-pub words-first : (l : List ℕ) → words l ≡ word l ∷ arguments (behindWord l)
+pub words_first : (l : List ℕ) → words l ≡ word l ∷ arguments (behind_word l)
 unfolding up_to words
-words-first [] = refl
-words-first (c ∷ l) = go (eqb c 32) (words-first l)
+words_first [] = refl
+words_first (c ∷ l) = go (eqb c 32) (words_first l)
   where
-    go : (b : Bool) → words l ≡ word l ∷ arguments (behindWord l) → cond b ([] ∷ words l) (onFirst c (words l)) ≡ cond b [] (c ∷ word l)
+    go : (b : Bool) → words l ≡ word l ∷ arguments (behind_word l) → cond b ([] ∷ words l) (on_first c (words l)) ≡ cond b [] (c ∷ word l)
         ∷ arguments (drop (length (cond b [] (c ∷ word l))) (c ∷ l))
     go true e = refl
     go false e = rw e
 
 -- the next argument is the word behind a space, up to e
-pub arguments-next : (line : List ℕ) (here e : ℕ) → here < length line → e ≡ here + 1 + length (word (drop (here + 1) line)) →
+pub arguments_next : (line : List ℕ) (here e : ℕ) → here < length line → e ≡ here + 1 + length (word (drop (here + 1) line)) →
     arguments (drop here line) ≡ take (e - (here + 1)) (drop (here + 1) line) ∷ arguments (drop e line)
-arguments-next line here e h q =
+arguments_next line here e h q =
     let rest = drop (here + 1) line in
     let count : e - (here + 1) ≡ length (word rest) = omega arith in
     let there : drop (length (word rest)) rest ≡ drop e line =
     drop-drop (length (word rest)) (here + 1) line ∙ ap (λ (k : ℕ). drop k line) (sym q) in
     ap arguments (drop-cons line here 0 h) ∙ ap (λ (k : ℕ). words (drop k line)) (sym (add-one here))
-    ∙ words-first rest
+    ∙ words_first rest
     ∙ ap (λ (m : List ℕ). word rest ∷ arguments m) there
-    ∙ ap (λ (w : List ℕ). w ∷ arguments (drop e line)) (sym (word-front rest) ∙ ap (λ (k : ℕ). take k rest) (sym count))
+    ∙ ap (λ (w : List ℕ). w ∷ arguments (drop e line)) (sym (word_front rest) ∙ ap (λ (k : ℕ). take k rest) (sym count))
 
-pub arguments-end : (line : List ℕ) (here : ℕ) → length line ≤ here → arguments (drop here line) ≡ []
-arguments-end line here h = rw (drop_of_length-le line h)
+pub arguments_end : (line : List ℕ) (here : ℕ) → length line ≤ here → arguments (drop here line) ≡ []
+arguments_end line here h = rw (drop_of_length-le line h)
 
 -- ---- numbers
 
@@ -114,151 +114,151 @@ abbrev pub prepend : List ℕ → Option (List ℕ) → Option (List ℕ)
 prepend ns none = none
 prepend ns (some ms) = some (ns ++ ms)
 
-pub prepend-none : (o : Option (List ℕ)) → prepend [] o ≡ o
-prepend-none none = refl
-prepend-none (some ms) = refl
+pub prepend_none : (o : Option (List ℕ)) → prepend [] o ≡ o
+prepend_none none = refl
+prepend_none (some ms) = refl
 
 -- a word that is a number, and one that is none
-pub numbers-next : (ns w : List ℕ) (n : ℕ) (ws : List (List ℕ)) → number_of w ≡ number.Of n
-    → prepend ns (numbersOf (w ∷ ws)) ≡ prepend (ns ++ (n ∷ [])) (numbersOf ws)
-unfolding numbersOf
-numbers-next ns w n ws e = rw e (go (numbersOf ws))
+pub numbers_next : (ns w : List ℕ) (n : ℕ) (ws : List (List ℕ)) → number_of w ≡ number.Of n
+    → prepend ns (numbers_of (w ∷ ws)) ≡ prepend (ns ++ (n ∷ [])) (numbers_of ws)
+unfolding numbers_of
+numbers_next ns w n ws e = rw e (go (numbers_of ws))
   where
-    go : (o : Option (List ℕ)) → prepend ns (oneMore (number.Of n) o) ≡ prepend (ns ++ (n ∷ [])) o
+    go : (o : Option (List ℕ)) → prepend ns (one_more (number.Of n) o) ≡ prepend (ns ++ (n ∷ [])) o
     go none = refl
     go (some ms) = ap some (sym (append_assoc ns (n ∷ []) ms))
 
-pub numbers-none : (ns w : List ℕ) (ws : List (List ℕ)) → number_of w ≡ number.Malformed → prepend ns (numbersOf (w ∷ ws)) ≡ none
-unfolding numbersOf
-numbers-none ns w ws e = rw e
+pub numbers_none : (ns w : List ℕ) (ws : List (List ℕ)) → number_of w ≡ number.Malformed → prepend ns (numbers_of (w ∷ ws)) ≡ none
+unfolding numbers_of
+numbers_none ns w ws e = rw e
 
-pub numbers-end : (ns : List ℕ) → prepend ns (numbersOf []) ≡ some ns
-unfolding numbersOf
-numbers-end ns = ap some (append-nil ns)
+pub numbers_end : (ns : List ℕ) → prepend ns (numbers_of []) ≡ some ns
+unfolding numbers_of
+numbers_end ns = ap some (append-nil ns)
 
 -- more than eight numbers
-pub few-long : (ns : List ℕ) (o : Option (List ℕ)) → 8 < length ns → few (prepend ns o) ≡ none
-few-long ns none h = refl
-few-long ns (some ms) h = rw (lt-leb (length (ns ++ ms)) 8 (omega (arith, length-append ns ms)))
+pub few_long : (ns : List ℕ) (o : Option (List ℕ)) → 8 < length ns → few (prepend ns o) ≡ none
+few_long ns none h = refl
+few_long ns (some ms) h = rw (lt-leb (length (ns ++ ms)) 8 (omega (arith, length-append ns ms)))
 
 -- ---- the arms of a match
 
-pub one_of : (k : ℕ) (ks : List ℕ) (n : ℕ) → OneOf (k ∷ ks) n → isOneOf n (k ∷ ks) ≡ true
-unfolding isOneOf
+pub one_of : (k : ℕ) (ks : List ℕ) (n : ℕ) → OneOf (k ∷ ks) n → is_one_of n (k ∷ ks) ≡ true
+unfolding is_one_of
 one_of k [] n e = rw (eq-eqb n k e)
 one_of k (m ∷ ks) n (inl e) = rw (eq-eqb n k e)
 one_of k (m ∷ ks) n (inr h) = rw (one_of m ks n h, or-true)
 
-pub none_of : (k : ℕ) (ks : List ℕ) (n : ℕ) → (OneOf (k ∷ ks) n → ⊥) → isOneOf n (k ∷ ks) ≡ false
-unfolding isOneOf
+pub none_of : (k : ℕ) (ks : List ℕ) (n : ℕ) → (OneOf (k ∷ ks) n → ⊥) → is_one_of n (k ∷ ks) ≡ false
+unfolding is_one_of
 none_of k [] n d = rw (ne_eqb n k d)
 none_of k (m ∷ ks) n d = rw (ne_eqb n k (λ e. d (inl e)), none_of m ks n (λ h. d (inr h)))
 
--- four tests joined from the left, and as `isOneOf` joins them
-pub or-four : (a b c d : Bool) → (((a || b) || c) || d) ≡ (a || (b || (c || (d || false))))
-or-four true b c d = refl
-or-four false true c d = refl
-or-four false false true d = refl
-or-four false false false true = refl
-or-four false false false false = refl
+-- four tests joined from the left, and as `is_one_of` joins them
+pub or_four : (a b c d : Bool) → (((a || b) || c) || d) ≡ (a || (b || (c || (d || false))))
+or_four true b c d = refl
+or_four false true c d = refl
+or_four false false true d = refl
+or_four false false false true = refl
+or_four false false false false = refl
 
 -- ---- commands by how many numbers there are
 
 module _ (name : ℕ) where
-  pub one_number : (l : List ℕ) → 1 ≤ length l → ofNumbers name (take 1 l) ≡ ofOne name (get_or l 0 0)
+  pub one_number : (l : List ℕ) → 1 ≤ length l → of_numbers name (take 1 l) ≡ of_one name (get_or l 0 0)
   one_number [] h = absurd (omega arith)
   one_number (a ∷ l) h = refl
 
-  pub two-numbers : (l : List ℕ) → 2 ≤ length l → ofNumbers name (take 2 l) ≡ ofTwo name (get_or l 0 0) (get_or l 1 0)
-  two-numbers [] h = absurd (omega arith)
-  two-numbers (a ∷ []) h = absurd (omega arith)
-  two-numbers (a ∷ b ∷ l) h = refl
+  pub two_numbers : (l : List ℕ) → 2 ≤ length l → of_numbers name (take 2 l) ≡ of_two name (get_or l 0 0) (get_or l 1 0)
+  two_numbers [] h = absurd (omega arith)
+  two_numbers (a ∷ []) h = absurd (omega arith)
+  two_numbers (a ∷ b ∷ l) h = refl
 
-  pub four-numbers : (l : List ℕ) → 4 ≤ length l
-      → ofNumbers name (take 4 l) ≡ of_four name (get_or l 0 0) (get_or l 1 0) (get_or l 2 0) (get_or l 3 0)
-  four-numbers [] h = absurd (omega arith)
-  four-numbers (a ∷ []) h = absurd (omega arith)
-  four-numbers (a ∷ b ∷ []) h = absurd (omega arith)
-  four-numbers (a ∷ b ∷ c ∷ []) h = absurd (omega arith)
-  four-numbers (a ∷ b ∷ c ∷ d ∷ l) h = refl
+  pub four_numbers : (l : List ℕ) → 4 ≤ length l
+      → of_numbers name (take 4 l) ≡ of_four name (get_or l 0 0) (get_or l 1 0) (get_or l 2 0) (get_or l 3 0)
+  four_numbers [] h = absurd (omega arith)
+  four_numbers (a ∷ []) h = absurd (omega arith)
+  four_numbers (a ∷ b ∷ []) h = absurd (omega arith)
+  four_numbers (a ∷ b ∷ c ∷ []) h = absurd (omega arith)
+  four_numbers (a ∷ b ∷ c ∷ d ∷ l) h = refl
 
-  pub five-numbers : (l : List ℕ) → 5 ≤ length l
-      → ofNumbers name (take 5 l) ≡ ofFive name (get_or l 0 0) (get_or l 1 0) (get_or l 2 0) (get_or l 3 0) (get_or l 4 0)
-  five-numbers [] h = absurd (omega arith)
-  five-numbers (a ∷ []) h = absurd (omega arith)
-  five-numbers (a ∷ b ∷ []) h = absurd (omega arith)
-  five-numbers (a ∷ b ∷ c ∷ []) h = absurd (omega arith)
-  five-numbers (a ∷ b ∷ c ∷ d ∷ []) h = absurd (omega arith)
-  five-numbers (a ∷ b ∷ c ∷ d ∷ e ∷ l) h = refl
+  pub five_numbers : (l : List ℕ) → 5 ≤ length l
+      → of_numbers name (take 5 l) ≡ of_five name (get_or l 0 0) (get_or l 1 0) (get_or l 2 0) (get_or l 3 0) (get_or l 4 0)
+  five_numbers [] h = absurd (omega arith)
+  five_numbers (a ∷ []) h = absurd (omega arith)
+  five_numbers (a ∷ b ∷ []) h = absurd (omega arith)
+  five_numbers (a ∷ b ∷ c ∷ []) h = absurd (omega arith)
+  five_numbers (a ∷ b ∷ c ∷ d ∷ []) h = absurd (omega arith)
+  five_numbers (a ∷ b ∷ c ∷ d ∷ e ∷ l) h = refl
 
-  pub six-numbers : (l : List ℕ) → 6 ≤ length l →
-      ofNumbers name (take 6 l) ≡ ofSix name (get_or l 0 0) (get_or l 1 0) (get_or l 2 0) (get_or l 3 0) (get_or l 4 0) (get_or l 5 0)
-  six-numbers [] h = absurd (omega arith)
-  six-numbers (a ∷ []) h = absurd (omega arith)
-  six-numbers (a ∷ b ∷ []) h = absurd (omega arith)
-  six-numbers (a ∷ b ∷ c ∷ []) h = absurd (omega arith)
-  six-numbers (a ∷ b ∷ c ∷ d ∷ []) h = absurd (omega arith)
-  six-numbers (a ∷ b ∷ c ∷ d ∷ e ∷ []) h = absurd (omega arith)
-  six-numbers (a ∷ b ∷ c ∷ d ∷ e ∷ f ∷ l) h = refl
+  pub six_numbers : (l : List ℕ) → 6 ≤ length l →
+      of_numbers name (take 6 l) ≡ of_six name (get_or l 0 0) (get_or l 1 0) (get_or l 2 0) (get_or l 3 0) (get_or l 4 0) (get_or l 5 0)
+  six_numbers [] h = absurd (omega arith)
+  six_numbers (a ∷ []) h = absurd (omega arith)
+  six_numbers (a ∷ b ∷ []) h = absurd (omega arith)
+  six_numbers (a ∷ b ∷ c ∷ []) h = absurd (omega arith)
+  six_numbers (a ∷ b ∷ c ∷ d ∷ []) h = absurd (omega arith)
+  six_numbers (a ∷ b ∷ c ∷ d ∷ e ∷ []) h = absurd (omega arith)
+  six_numbers (a ∷ b ∷ c ∷ d ∷ e ∷ f ∷ l) h = refl
 
-  pub seven-numbers : (l : List ℕ) → 7 ≤ length l →
-      ofNumbers name (take 7 l)
-      ≡ ofSeven name (get_or l 0 0) (get_or l 1 0) (get_or l 2 0) (get_or l 3 0) (get_or l 4 0) (get_or l 5 0) (get_or l 6 0)
-  seven-numbers [] h = absurd (omega arith)
-  seven-numbers (a ∷ []) h = absurd (omega arith)
-  seven-numbers (a ∷ b ∷ []) h = absurd (omega arith)
-  seven-numbers (a ∷ b ∷ c ∷ []) h = absurd (omega arith)
-  seven-numbers (a ∷ b ∷ c ∷ d ∷ []) h = absurd (omega arith)
-  seven-numbers (a ∷ b ∷ c ∷ d ∷ e ∷ []) h = absurd (omega arith)
-  seven-numbers (a ∷ b ∷ c ∷ d ∷ e ∷ f ∷ []) h = absurd (omega arith)
-  seven-numbers (a ∷ b ∷ c ∷ d ∷ e ∷ f ∷ g ∷ l) h = refl
+  pub seven_numbers : (l : List ℕ) → 7 ≤ length l →
+      of_numbers name (take 7 l)
+      ≡ of_seven name (get_or l 0 0) (get_or l 1 0) (get_or l 2 0) (get_or l 3 0) (get_or l 4 0) (get_or l 5 0) (get_or l 6 0)
+  seven_numbers [] h = absurd (omega arith)
+  seven_numbers (a ∷ []) h = absurd (omega arith)
+  seven_numbers (a ∷ b ∷ []) h = absurd (omega arith)
+  seven_numbers (a ∷ b ∷ c ∷ []) h = absurd (omega arith)
+  seven_numbers (a ∷ b ∷ c ∷ d ∷ []) h = absurd (omega arith)
+  seven_numbers (a ∷ b ∷ c ∷ d ∷ e ∷ []) h = absurd (omega arith)
+  seven_numbers (a ∷ b ∷ c ∷ d ∷ e ∷ f ∷ []) h = absurd (omega arith)
+  seven_numbers (a ∷ b ∷ c ∷ d ∷ e ∷ f ∷ g ∷ l) h = refl
 
   module _ (n : ℕ) (d₀ : n ≡ 0 → ⊥) (d₁ : n ≡ 1 → ⊥) (d₂ : n ≡ 2 → ⊥) (d₄ : n ≡ 4 → ⊥) (d₅ : n ≡ 5 → ⊥) (d₆ : n ≡ 6 → ⊥)
       (d₇ : n ≡ 7 → ⊥) where
-    no-command : (l : List ℕ) → n ≡ length l → ofNumbers name l ≡ Malformed
-    no-command [] q = absurd (d₀ q)
-    no-command (a ∷ []) q = absurd (d₁ q)
-    no-command (a ∷ b ∷ []) q = absurd (d₂ q)
-    no-command (a ∷ b ∷ c ∷ []) q = refl
-    no-command (a ∷ b ∷ c ∷ d ∷ []) q = absurd (d₄ q)
-    no-command (a ∷ b ∷ c ∷ d ∷ e ∷ []) q = absurd (d₅ q)
-    no-command (a ∷ b ∷ c ∷ d ∷ e ∷ f ∷ []) q = absurd (d₆ q)
-    no-command (a ∷ b ∷ c ∷ d ∷ e ∷ f ∷ g ∷ []) q = absurd (d₇ q)
-    no-command (a ∷ b ∷ c ∷ d ∷ e ∷ f ∷ g ∷ h ∷ l) q = refl
+    no_command : (l : List ℕ) → n ≡ length l → of_numbers name l ≡ Malformed
+    no_command [] q = absurd (d₀ q)
+    no_command (a ∷ []) q = absurd (d₁ q)
+    no_command (a ∷ b ∷ []) q = absurd (d₂ q)
+    no_command (a ∷ b ∷ c ∷ []) q = refl
+    no_command (a ∷ b ∷ c ∷ d ∷ []) q = absurd (d₄ q)
+    no_command (a ∷ b ∷ c ∷ d ∷ e ∷ []) q = absurd (d₅ q)
+    no_command (a ∷ b ∷ c ∷ d ∷ e ∷ f ∷ []) q = absurd (d₆ q)
+    no_command (a ∷ b ∷ c ∷ d ∷ e ∷ f ∷ g ∷ []) q = absurd (d₇ q)
+    no_command (a ∷ b ∷ c ∷ d ∷ e ∷ f ∷ g ∷ h ∷ l) q = refl
 
-    pub other-numbers : (l : List ℕ) → length l ≡ 8 → Malformed ≡ withNumbers name (cond (leb n 8) (some (take n l)) none)
-    other-numbers l whole = go (dec_le n 8)
+    pub other_numbers : (l : List ℕ) → length l ≡ 8 → Malformed ≡ with_numbers name (cond (leb n 8) (some (take n l)) none)
+    other_numbers l whole = go (dec_le n 8)
       where
-        go : Dec (n ≤ 8) → Malformed ≡ withNumbers name (cond (leb n 8) (some (take n l)) none)
-        go (yes h) = rw (le-leb n 8 h) (sym (no-command (take n l) (sym (length-take-le n l (omega arith)))))
+        go : Dec (n ≤ 8) → Malformed ≡ with_numbers name (cond (leb n 8) (some (take n l)) none)
+        go (yes h) = rw (le-leb n 8 h) (sym (no_command (take n l) (sym (length-take-le n l (omega arith)))))
         go (no h) = rw (lt-leb n 8 (omega arith))
 
   -- the reader keeps no more than eight
-  pub few-enough : (o : Option (List ℕ)) → withNumbers name (few o) ≡ withNumbers name o
-  few-enough none = refl
-  few-enough (some ns) = go (dec_le (length ns) 8)
+  pub few_enough : (o : Option (List ℕ)) → with_numbers name (few o) ≡ with_numbers name o
+  few_enough none = refl
+  few_enough (some ns) = go (dec_le (length ns) 8)
     where
-      go : Dec (length ns ≤ 8) → withNumbers name (cond (leb (length ns) 8) (some ns) none) ≡ ofNumbers name ns
+      go : Dec (length ns ≤ 8) → with_numbers name (cond (leb (length ns) 8) (some ns) none) ≡ of_numbers name ns
       go (yes h) = rw (le-leb (length ns) 8 h)
       go (no h) = rw (lt-leb (length ns) 8 (omega arith))
-          (sym (no-command (length ns) (λ e. omega arith) (λ e. omega arith) (λ e. omega arith) (λ e. omega arith) (λ e. omega arith)
+          (sym (no_command (length ns) (λ e. omega arith) (λ e. omega arith) (λ e. omega arith) (λ e. omega arith) (λ e. omega arith)
           (λ e. omega arith) (λ e. omega arith) ns refl))
 
 -- ---- bytes
 
 -- what stands behind a space
-pub behind-space : (line : List ℕ) (e : ℕ) → e < length line → drop e line ≡ get_or line e 0
+pub behind_space : (line : List ℕ) (e : ℕ) → e < length line → drop e line ≡ get_or line e 0
     ∷ take (length line - (e + 1)) (drop (e + 1) line)
-behind-space line e h =
+behind_space line e h =
     drop-cons line e 0 h ∙ ap (λ (k : ℕ). get_or line e 0 ∷ drop k line) (sym (add-one e))
     ∙ ap (λ (l : List ℕ). get_or line e 0
     ∷ l) (sym (take_all (length line - (e + 1)) (drop (e + 1) line) (omega (arith, length-drop (e + 1) line))))
 
 -- what the answer of reading bytes tells
-pub not-bytes : (b : Bool) (k : ℕ) → bytes.Malformed ≡ cond b (bytes.Count k) bytes.Malformed → b ≡ false
-not-bytes true k e = absurd (let z : ◌≡◌ {A = ℕ} 0 1 = cc in omega arith)
-not-bytes false k e = refl
+pub not_bytes : (b : Bool) (k : ℕ) → bytes.Malformed ≡ cond b (bytes.Count k) bytes.Malformed → b ≡ false
+not_bytes true k e = absurd (let z : ◌≡◌ {A = ℕ} 0 1 = cc in omega arith)
+not_bytes false k e = refl
 
-pub are-bytes : (b : Bool) (k n : ℕ) → bytes.Count n ≡ cond b (bytes.Count k) bytes.Malformed → (b ≡ true) × (n ≡ k)
-are-bytes true k n e = (refl, cc)
-are-bytes false k n e = absurd (let z : ◌≡◌ {A = ℕ} 0 1 = cc in omega arith)
+pub are_bytes : (b : Bool) (k n : ℕ) → bytes.Count n ≡ cond b (bytes.Count k) bytes.Malformed → (b ≡ true) × (n ≡ k)
+are_bytes true k n e = (refl, cc)
+are_bytes false k n e = absurd (let z : ◌≡◌ {A = ℕ} 0 1 = cc in omega arith)

@@ -48,8 +48,8 @@ longer n m (c ∷ v) (x ∷ w) bw l q d =
     let s = longer (256 * n + c) (256 * m + x) v w bw.1 (omega arith) (sym e ∙ q ∙ f) (λ z. d (e ∙ z)) in
     omega (arith, s, bw.0)
 
-pub name-once : (v w : List ℕ) → Bytes v → Bytes w → name_of v ≡ name_of w → (name_of v ≡ 0 → ⊥) → v ≡ w
-name-once v w bv bw q d = go (dec_lt (length v) (length w)) (dec_lt (length w) (length v))
+pub name_once : (v w : List ℕ) → Bytes v → Bytes w → name_of v ≡ name_of w → (name_of v ≡ 0 → ⊥) → v ≡ w
+name_once v w bv bw q d = go (dec_lt (length v) (length w)) (dec_lt (length w) (length v))
   where
     go : Dec (length v < length w) → Dec (length w < length v) → v ≡ w
     go (yes h) b = absurd (omega (arith, longer 1 1 w v bv h (sym q) (λ z. d (q ∙ z))))

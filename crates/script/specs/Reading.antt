@@ -10,5 +10,5 @@ few none = none
 few (some ns) = cond (leb (length ns) 8) (some ns) none
 
 -- the front of the array, up to the count
-abbrev pub readAs : Numbers → Option (List ℕ)
-readAs r = cond (leb r.count 8) (some (take r.count r.at)) none
+abbrev pub read_as : Numbers → Option (List ℕ)
+read_as r = cond (leb r.count 8) (some (take r.count r.at)) none

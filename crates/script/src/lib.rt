@@ -3,9 +3,9 @@ mod numbers;
 mod words;
 
 ghost use Rattle.std.specs.Prelude.{◌≡◌, length, drop};
-ghost use Rattle.script.specs.Commands.{isField, fieldMost, hasField, heldMost, of_none, ofOne, ofTwo, of_four, ofFive, ofSix, ofSeven};
-ghost use Rattle.script.specs.Commands.{withNumbers, withBytes, storedBytes, Parsed};
-ghost use Rattle.script.specs.Reading.{readAs};
+ghost use Rattle.script.specs.Commands.{is_field, field_most, has_field, held_most, of_none, of_one, of_two, of_four, of_five, of_six, of_seven};
+ghost use Rattle.script.specs.Commands.{with_numbers, with_bytes, stored_bytes, Parsed};
+ghost use Rattle.script.specs.Reading.{read_as};
 
 use notation::Bytes;
 use numbers::Numbers;
@@ -83,7 +83,7 @@ fn of_none(name: u64) -> Command
 
 // Commands with one number.
 fn of_one(name: u64, a: u32) -> Command
-    ensures { result ≡ ofOne name a }
+    ensures { result ≡ of_one name a }
 {
     if name == words::FLUSH {
         return Command::Flush(a);
@@ -102,14 +102,14 @@ fn of_one(name: u64, a: u32) -> Command
 
 // The fields of the control block that can be poked.
 fn is_field(field: u32) -> bool
-    ensures { result ≡ isField field }
+    ensures { result ≡ is_field field }
 {
     field <= 25
 }
 
 // The largest value of a field of the control block; nothing above its width is a value.
 fn field_most(field: u32) -> u32
-    ensures { result ≡ fieldMost field }
+    ensures { result ≡ field_most field }
 {
     if (field == 1) | (field == 3) | (field == 9) | (field == 18) {
         return 65535;
@@ -122,7 +122,7 @@ fn field_most(field: u32) -> u32
 
 // Commands with two numbers.
 fn of_two(name: u64, a: u32, b: u32) -> Command
-    ensures { result ≡ ofTwo name a b }
+    ensures { result ≡ of_two name a b }
 {
     if name == words::JUMP {
         return Command::Jump { snd: a, rcv: b };
@@ -138,7 +138,7 @@ fn of_two(name: u64, a: u32, b: u32) -> Command
 
 // The largest value of a field of a held segment: slot, length, fragment, and transmissions or number.
 fn held_most(list: u32, field: u32) -> u32
-    ensures { result ≡ heldMost list field }
+    ensures { result ≡ held_most list field }
 {
     match field {
         0 => 255,
@@ -150,7 +150,7 @@ fn held_most(list: u32, field: u32) -> u32
 
 // Whether segments of the list have the field.
 fn has_field(list: u32, field: u32) -> bool
-    ensures { result ≡ hasField list field }
+    ensures { result ≡ has_field list field }
 {
     (list <= 3) & (field <= 3) & ((field < 3) | (list == 1) | (list == 3))
 }
@@ -172,7 +172,7 @@ fn of_four(name: u64, list: u32, index: u32, field: u32, value: u32) -> Command
 
 // Commands with five numbers.
 fn of_five(name: u64, a: u32, b: u32, c: u32, d: u32, e: u32) -> Command
-    ensures { result ≡ ofFive name a b c d e }
+    ensures { result ≡ of_five name a b c d e }
 {
     if name == words::OPEN {
         return Command::Open {
@@ -199,7 +199,7 @@ fn of_five(name: u64, a: u32, b: u32, c: u32, d: u32, e: u32) -> Command
 
 // Commands with six numbers.
 fn of_six(name: u64, a: u32, b: u32, c: u32, d: u32, e: u32, f: u32) -> Command
-    ensures { result ≡ ofSix name a b c d e f }
+    ensures { result ≡ of_six name a b c d e f }
 {
     if name == words::OPEN {
         return Command::Open {
@@ -217,7 +217,7 @@ fn of_six(name: u64, a: u32, b: u32, c: u32, d: u32, e: u32, f: u32) -> Command
 
 // Commands with seven numbers.
 fn of_seven(name: u64, a: u32, b: u32, c: u32, d: u32, e: u32, f: u32, g: u32) -> Command
-    ensures { result ≡ ofSeven name a b c d e f g }
+    ensures { result ≡ of_seven name a b c d e f g }
 {
     if name == words::OPEN {
         return Command::Open {
@@ -235,7 +235,7 @@ fn of_seven(name: u64, a: u32, b: u32, c: u32, d: u32, e: u32, f: u32, g: u32) -
 
 // A command with numbers, by how many there are.
 fn of_numbers(name: u64, n: Numbers) -> Command
-    ensures { result ≡ withNumbers name (readAs n) }
+    ensures { result ≡ with_numbers name (read_as n) }
 {
     let count = n.count;
     let at = n.at;
@@ -253,8 +253,8 @@ fn of_numbers(name: u64, n: Numbers) -> Command
 
 // A command with bytes, which are stored at the start of `bytes`: they are the whole of the line behind one space.
 fn of_bytes(name: u64, line: &[u8], end: usize, bytes: &mut [u8]) -> Command
-    ensures { (result ≡ withBytes name (drop end line.now) (length bytes.old)) ×
-        (bytes.new ≡ storedBytes (drop end line.now) bytes.old) }
+    ensures { (result ≡ with_bytes name (drop end line.now) (length bytes.old)) ×
+        (bytes.new ≡ stored_bytes (drop end line.now) bytes.old) }
 {
     if end < line.len() {
         let read = notation::read::bytes(&line[end + 1..], bytes);

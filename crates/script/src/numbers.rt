@@ -1,7 +1,7 @@
 // The numbers of a line.
 ghost use Rattle.std.specs.Prelude.{◌≡◌, ◌≤◌, length, drop};
-ghost use Rattle.script.specs.Commands.{arguments, numbersOf};
-ghost use Rattle.script.specs.Reading.{few, readAs};
+ghost use Rattle.script.specs.Commands.{arguments, numbers_of};
+ghost use Rattle.script.specs.Reading.{few, read_as};
 
 use crate::words;
 use notation::Number;
@@ -19,7 +19,7 @@ const TOO_MANY: usize = 9;
 // The numbers behind `from`, where a line ends or a space stands, with one space in front of each.
 pub(crate) fn behind(line: &[u8], from: usize) -> Numbers
     requires { from ≤ length line.now }
-    ensures { readAs result ≡ few (numbersOf (arguments (drop from line.now))) }
+    ensures { read_as result ≡ few (numbers_of (arguments (drop from line.now))) }
 {
     let mut at: [u32; 8] = [0; 8];
     let mut count: usize = 0;

@@ -9,8 +9,8 @@ use borrow.Author.Tests.{le-leb, leb-true}
 use lib.Dec.{ltb}
 use lib.ListN.{length, take, length-append, length-map}
 use lib.Seq.{length-take-le}
-use Rattle.protocol.specs.Protocol.{fragmentsMost, sendSlots}
-use Rattle.protocol.specs.Ranges.{mss, isStream}
+use Rattle.protocol.specs.Protocol.{fragments_most, send_slots}
+use Rattle.protocol.specs.Ranges.{mss, is_stream}
 use Rattle.protocol.specs.declared.Refusal.{Refusal}
 use Rattle.protocol.specs.declared.Refusal.TheVariants.{LongMessage, NoFreeSlots}
 use Rattle.protocol.specs.declared.Settings.{Settings}
@@ -20,54 +20,54 @@ use Rattle.lists.specs.declared.Sent as outstanding
 use Rattle.sizes.specs.Sizes.{enough}
 use Rattle.sizes.specs.declared.Lengths.{Lengths}
 use Rattle.session.specs.Decides.{All, and_parts}
-use Rattle.session.specs.State.{State, Outcome, refused, done, sendHeld, slots, withQueued}
-use Rattle.session.specs.Cutting.{segmentCount, cutAs}
+use Rattle.session.specs.State.{State, Outcome, refused, done, send_held, slots, with_queued}
+use Rattle.session.specs.Cutting.{segment_count, cut_as}
 use Rattle.session.specs.Sending.{Sends, sending, place, filled}
-use Rattle.session.specs.AllLaws.{all_right, all-mapped}
-use Rattle.session.specs.Once.{Once, once-distinct}
-use Rattle.session.specs.UsedSlots.{distinct-few}
-use Rattle.session.specs.IsValid.{valid-decides}
+use Rattle.session.specs.AllLaws.{all_right, all_mapped}
+use Rattle.session.specs.Once.{Once, once_distinct}
+use Rattle.session.specs.UsedSlots.{distinct_few}
+use Rattle.session.specs.IsValid.{valid_decides}
 use Rattle.slots.specs.Slots.{slots_of}
-use Rattle.words.specs.Words.{unpack, heldIn}
+use Rattle.words.specs.Words.{unpack, held_in}
 use Rattle.marks.specs.Marks.{Free}
 use Rattle.control.specs.declared.Flight.{Flight}
 use Rattle.control.specs.declared.Arrival.{Arrival}
 use Rattle.control.specs.declared.Clock.{Clock}
 use Rattle.control.specs.declared.Link.{Link}
-use Rattle.control.specs.Views.{Arrays, link_of, Whole, state_of, countsFit, blockValid}
+use Rattle.control.specs.Views.{Arrays, link_of, Whole, state_of, counts_fit, block_valid}
 use Rattle.control.specs.ViewLaws.{counts}
 use Rattle.answers.specs.declared.Answer.{Answer}
 use Rattle.answers.specs.declared.Answer.TheVariants.{Refused}
 use Rattle.checking.specs.declared.Verdict.{Verdict}
 use Rattle.checking.specs.declared.Verdict.TheVariants as verdict
-use Rattle.checking.specs.Verdicts.{Checked, verdictOf}
-use Rattle.checking.specs.VerdictLaws.{Passes, refused-by, passed-by}
-use Rattle.checking.proofs.Halves.{send-slots}
+use Rattle.checking.specs.Verdicts.{Checked, verdict_of}
+use Rattle.checking.specs.VerdictLaws.{Passes, refused_by_lem, passed_by}
+use Rattle.checking.proofs.Halves.{send_slots_lem}
 use Rattle.enqueue.specs.declared.Enqueued.{Enqueued}
 use Rattle.enqueue.specs.Enqueueing.{Enqueueable, PartsOf, Follows}
-use Rattle.promises.specs.Outcomes.{sendsWith}
+use Rattle.promises.specs.Outcomes.{sends_with}
 use Rattle.promises.specs.Cores.{SendCore}
 use Rattle.send_core.specs.declared.Submitted.{Submitted}
-use Rattle.send_core.specs.Sending.{withCount, Enqueues}
+use Rattle.send_core.specs.Sending.{with_count, Enqueues}
 
 -- an accepted message changes the queued segments alone
-queued-alone : (s : State) (pool m : List ℕ) (x : Sends) → sending s pool m ≡ done x → x.state ≡ withQueued s x.state.sending.queued
+queued_alone : (s : State) (pool m : List ℕ) (x : Sends) → sending s pool m ≡ done x → x.state ≡ with_queued s x.state.sending.queued
 unfolding sending
-queued-alone s pool m x e =
-    let stream = isStream s.settings in
+queued_alone s pool m x e =
+    let stream = is_stream s.settings in
     let size = mss s.settings in
-    let used = slots (sendHeld s.sending) in
+    let used = slots (send_held s.sending) in
     let f = filled stream size s.sending.queued pool m in
-    let placed = place stream size used f.pool (cutAs stream size f.rest) in
-    go (ltb (fragmentsMost * size) (length f.rest)) (ltb (sendSlots - length used) (segmentCount stream size (length f.rest)))
+    let placed = place stream size used f.pool (cut_as stream size f.rest) in
+    go (ltb (fragments_most * size) (length f.rest)) (ltb (send_slots - length used) (segment_count stream size (length f.rest)))
     (f.queued ++ placed.segments) placed.pool e
   where
     go : (a b : Bool) (q : List Held) (p : List ℕ)
-        → cond a (refused LongMessage) (cond b (refused NoFreeSlots) (done (record { state = withQueued s q; pool = p }))) ≡ done x
-        → x.state ≡ withQueued s x.state.sending.queued
+        → cond a (refused LongMessage) (cond b (refused NoFreeSlots) (done (record { state = with_queued s q; pool = p }))) ≡ done x
+        → x.state ≡ with_queued s x.state.sending.queued
     go true b q p e = absurd (let z : ◌≡◌ {A = ℕ} 0 1 = cc in omega arith)
     go false true q p e = absurd (let z : ◌≡◌ {A = ℕ} 0 1 = cc in omega arith)
-    go false false q p e = let i : record { state = withQueued s q; pool = p } ≡ x = cc in rw (← i)
+    go false false q p e = let i : record { state = with_queued s q; pool = p } ≡ x = cc in rw (← i)
 
 -- the arrays with other queued segments
 abbrev pub with_words : Arrays → List ℕ → Arrays
@@ -85,23 +85,23 @@ module _ (s : Settings) (f : Flight) (a : Arrival) (k : Clock) (x : Arrays) (rs 
   link = link_of s f a k x
 
   abbrev used : List ℕ
-  used = slots (sendHeld (state_of link rs acks).sending)
+  used = slots (send_held (state_of link rs acks).sending)
 
   -- ---- what the checks of 7 and 13 have established
 
   -- so many slots are held
-  used-count : Whole x → length rs ≡ 32 → countsFit link ≡ true → length used ≡ f.outstanding + f.queued
-  unfolding state_of countsFit
-  used-count w l c =
+  used_count : Whole x → length rs ≡ 32 → counts_fit link ≡ true → length used ≡ f.outstanding + f.queued
+  unfolding state_of counts_fit
+  used_count w l c =
       let n = counts f a c in
-      let o : f.outstanding ≤ length x.outstanding = omega (arith, n.outstanding, w.whole-outstanding) in
-      let t : f.outstanding ≤ length x.transmissions = omega (arith, n.outstanding, w.whole-transmissions) in
-      let q : f.queued ≤ length x.queued = omega (arith, n.queued, w.whole-queued) in
-      ap length (send-slots f x.queued x.outstanding x.transmissions rs o t (omega (arith, n.outstanding)))
-      ∙ length-append (slots_of (heldIn x.outstanding f.outstanding)) (slots_of (heldIn x.queued f.queued))
+      let o : f.outstanding ≤ length x.outstanding = omega (arith, n.outstanding, w.whole_outstanding) in
+      let t : f.outstanding ≤ length x.transmissions = omega (arith, n.outstanding, w.whole_transmissions) in
+      let q : f.queued ≤ length x.queued = omega (arith, n.queued, w.whole_queued) in
+      ap length (send_slots_lem f x.queued x.outstanding x.transmissions rs o t (omega (arith, n.outstanding)))
+      ∙ length-append (slots_of (held_in x.outstanding f.outstanding)) (slots_of (held_in x.queued f.queued))
       ∙ rw (
-        length-map (heldIn x.outstanding f.outstanding) (λ (h : Held). h.slot),
-        length-map (heldIn x.queued f.queued) (λ (h : Held). h.slot),
+        length-map (held_in x.outstanding f.outstanding) (λ (h : Held). h.slot),
+        length-map (held_in x.queued f.queued) (λ (h : Held). h.slot),
         length-map (take f.outstanding x.outstanding) unpack,
         length-map (take f.queued x.queued) unpack,
         length-take-le f.outstanding x.outstanding o,
@@ -109,122 +109,122 @@ module _ (s : Settings) (f : Flight) (a : Arrival) (k : Clock) (x : Arrays) (rs 
       )
 
   -- and no more than there are slots, since none is held twice
-  used-few : Once used → All (λ (h : Held). h.slot < sendSlots) (sendHeld (state_of link rs acks).sending) → length used ≤ sendSlots
-  used-few o a =
-      distinct-few sendSlots used (once-distinct used o)
-      (all-mapped (λ (n : ℕ). n < sendSlots) (λ (h : Held). h.slot) (sendHeld (state_of link rs acks).sending) a)
+  used_few : Once used → All (λ (h : Held). h.slot < send_slots) (send_held (state_of link rs acks).sending) → length used ≤ send_slots
+  used_few o a =
+      distinct_few send_slots used (once_distinct used o)
+      (all_mapped (λ (n : ℕ). n < send_slots) (λ (h : Held). h.slot) (send_held (state_of link rs acks).sending) a)
 
   pub record Sendable (n : Lengths) (marks : List ℕ) : Type 0 where
-    pub counts-fit : countsFit link ≡ true
+    pub counts_fit_lem : counts_fit link ≡ true
     pub held : length used ≡ f.outstanding + f.queued
-    pub few : length used ≤ sendSlots
-    pub low : All (λ (h : Held). h.slot < sendSlots) (heldIn x.queued f.queued)
-    pub whole-marks : length marks ≡ 128
+    pub few : length used ≤ send_slots
+    pub low : All (λ (h : Held). h.slot < send_slots) (held_in x.queued f.queued)
+    pub whole_marks : length marks ≡ 128
     pub free : Free marks used 0
     pub some : 0 < mss s
     pub word : mss s < 2 ^ 16
-    pub long-enough : sendSlots * mss s ≤ n.send
+    pub long_enough_lem : send_slots * mss s ≤ n.send
 
   -- by the lent sizes and the verdict
-  module _ (n : Lengths) (long : Bool) (v : Verdict) (e : long ≡ enough (mss s) n) (g : v ≡ verdictOf long (blockValid link rs acks)) where
+  module _ (n : Lengths) (long : Bool) (v : Verdict) (e : long ≡ enough (mss s) n) (g : v ≡ verdict_of long (block_valid link rs acks)) where
     -- refused: nothing changes
     pub refuses : (r : Refusal) (pool message : List ℕ) → v ≡ verdict.Refused r
-        → SendCore (sendsWith link rs acks n pool message) link rs acks pool (Refused r) link pool
-    unfolding sendsWith
-    refuses r pool message q = rw (← e, refused-by (sending (state_of link rs acks) pool message) long (blockValid link rs acks) v r g q)
+        → SendCore (sends_with link rs acks n pool message) link rs acks pool (Refused r) link pool
+    unfolding sends_with
+    refuses r pool message q = rw (← e, refused_by_lem (sending (state_of link rs acks) pool message) long (block_valid link rs acks) v r g q)
         (refl, refl, refl)
 
     module _ (p : v ≡ verdict.Passed) where
-      passing : Passes long (blockValid link rs acks)
-      passing = passed-by long (blockValid link rs acks) v g p
+      passing : Passes long (block_valid link rs acks)
+      passing = passed_by long (block_valid link rs acks) v g p
 
       pub sendable : (send receive : List ℕ) → Checked link rs send receive true → Whole x → length rs ≡ 32 → Sendable n send
-      unfolding blockValid enough state_of
+      unfolding block_valid enough state_of
       sendable send receive c w l =
-          let u = and_parts (countsFit link) _ passing.valid-block in
-          let all = (valid-decides (state_of link rs acks)).holds u.1 in
+          let u = and_parts (counts_fit link) _ passing.valid_block in
+          let all = (valid_decides (state_of link rs acks)).holds u.1 in
           let range = all.settings in
           let half = all.sending in
-          let room = leb-true (sendSlots * mss s) n.send
-          (and_parts _ _ (and_parts _ _ (and_parts _ _ (sym e ∙ passing.long-enough)).0).0).0 in
+          let room = leb-true (send_slots * mss s) n.send
+          (and_parts _ _ (and_parts _ _ (and_parts _ _ (sym e ∙ passing.long_enough_lem)).0).0).0 in
           record {
-            counts-fit = u.0;
-            held = used-count w l u.0;
-            few = used-few half.slots-once half.slots-below;
-            low = all_right (λ (h : Held). h.slot < sendSlots)
+            counts_fit_lem = u.0;
+            held = used_count w l u.0;
+            few = used_few half.slots_once half.slots_below;
+            low = all_right (λ (h : Held). h.slot < send_slots)
                 (map (λ (y : outstanding.Sent). y.held) (state_of link rs acks).sending.outstanding)
-                (heldIn x.queued f.queued) half.slots-below;
-            whole-marks = c.send-whole;
-            free = c.send-free acks refl;
-            some = omega (arith, range.mtu-least);
-            word = omega (arith, range.mtu-most);
-            long-enough = room;
+                (held_in x.queued f.queued) half.slots_below;
+            whole_marks = c.send_whole;
+            free = c.send_free acks refl;
+            some = omega (arith, range.mtu_least_lem);
+            word = omega (arith, range.mtu_most_lem);
+            long_enough_lem = room;
           }
 
       -- what is left of the call's own
       pub passes : (pool message : List ℕ) (b : Answer) (l' : Link) (pool' : List ℕ)
           → SendCore (sending (state_of link rs acks) pool message) link rs acks pool b l' pool'
-          → SendCore (sendsWith link rs acks n pool message) link rs acks pool b l' pool'
-      unfolding sendsWith
-      passes pool message b l' pool' h = rw (sym e ∙ passing.long-enough, passing.valid-block) h
+          → SendCore (sends_with link rs acks n pool message) link rs acks pool b l' pool'
+      unfolding sends_with
+      passes pool message b l' pool' h = rw (sym e ∙ passing.long_enough_lem, passing.valid_block) h
 
   -- ---- enqueueing
 
-  module _ {n : Lengths} {marks : List ℕ} (p : Sendable n marks) {stream : Bool} {m : ℕ} (mode : stream ≡ isStream s) (size : m ≡ mss s)
+  module _ {n : Lengths} {marks : List ℕ} (p : Sendable n marks) {stream : Bool} {m : ℕ} (mode : stream ≡ is_stream s) (size : m ≡ mss s)
     where
       pub enqueueable : Whole x → (pool : List ℕ) → n.send ≡ length pool
           → Enqueueable m x.queued f.queued f.outstanding marks pool
-      unfolding countsFit
+      unfolding counts_fit
       enqueueable w pool l =
-          let c = counts f a p.counts-fit in
+          let c = counts f a p.counts_fit_lem in
           record {
-            whole = w.whole-queued;
-            queued-most = c.queued;
-            outstanding-most = c.outstanding;
-            held-most = omega (arith, p.held, p.few);
+            whole = w.whole_queued;
+            queued_most = c.queued;
+            outstanding_most = c.outstanding;
+            held_most_lem = omega (arith, p.held, p.few);
             low = p.low;
-            marks-whole = p.whole-marks;
+            marks_whole = p.whole_marks;
             marked = record { now = used; free = p.free; most = omega (arith, p.held) };
             some = rw size p.some;
             word = rw size p.word;
-            slots = rw (size, ← l) p.long-enough;
+            slots = rw (size, ← l) p.long_enough_lem;
           }
 
       parts : PartsOf (state_of link rs acks) stream m x.queued f.queued f.outstanding marks
       unfolding state_of
       parts = record { mode = sym mode; size = sym size; queue = refl; held = p.held; free = p.free }
 
-  counted : (c : ℕ) (q : List ℕ) → c ≤ 128 → countsFit link ≡ true → countsFit (link_of s (withCount f c) a k (with_words x q)) ≡ true
-  unfolding countsFit
+  counted : (c : ℕ) (q : List ℕ) → c ≤ 128 → counts_fit link ≡ true → counts_fit (link_of s (with_count f c) a k (with_words x q)) ≡ true
+  unfolding counts_fit
   counted c q h e =
       let n = counts f a e in
       rw (le-leb _ _ h, le-leb _ _ n.outstanding, le-leb _ _ n.ready, le-leb _ _ n.waiting, le-leb _ _ n.acks)
 
-  after-state : (c : ℕ) (q : List ℕ)
-      → state_of (link_of s (withCount f c) a k (with_words x q)) rs acks ≡ withQueued (state_of link rs acks) (heldIn q c)
+  after_state : (c : ℕ) (q : List ℕ)
+      → state_of (link_of s (with_count f c) a k (with_words x q)) rs acks ≡ with_queued (state_of link rs acks) (held_in q c)
   unfolding state_of
-  after-state c q = refl
+  after_state c q = refl
 
   put_back : (pool m pool' q : List ℕ) (e : Enqueued) (o : Outcome Sends) → sending (state_of link rs acks) pool m ≡ o
-      → Follows o x.queued f.queued pool e q pool' → countsFit link ≡ true
-      → SendCore o link rs acks pool e.answer (link_of s (withCount f e.queued) a k (with_words x q)) pool'
-  put_back pool m pool' q e (refused r) i h c = (h.answer, rw (h.count, h.list) refl, h.pool-same)
+      → Follows o x.queued f.queued pool e q pool' → counts_fit link ≡ true
+      → SendCore o link rs acks pool e.answer (link_of s (with_count f e.queued) a k (with_words x q)) pool'
+  put_back pool m pool' q e (refused r) i h c = (h.answer, rw (h.count, h.list) refl, h.pool_same)
   put_back pool m pool' q e (done y) i h c =
       record {
         answer = h.answer;
         counts = counted e.queued q h.fits c;
-        state = after-state e.queued q ∙ ap (withQueued (state_of link rs acks)) h.list ∙ sym
-            (queued-alone (state_of link rs acks) pool m y i);
+        state = after_state e.queued q ∙ ap (with_queued (state_of link rs acks)) h.list ∙ sym
+            (queued_alone (state_of link rs acks) pool m y i);
         slots = refl;
         pool = h.pool;
       }
 
   -- what sending past the checks gives, as the block
-  pub sent : {n : Lengths} {marks : List ℕ} (p : Sendable n marks) (stream : Bool) (m : ℕ) → stream ≡ isStream s → m ≡ mss s
+  pub sent : {n : Lengths} {marks : List ℕ} (p : Sendable n marks) (stream : Bool) (m : ℕ) → stream ≡ is_stream s → m ≡ mss s
       → (pool message : List ℕ) (r : Submitted) (q pool' : List ℕ) → Enqueues stream m f x.queued marks pool message r q pool'
       → SendCore (sending (state_of link rs acks) pool message) link rs acks pool r.answer (link_of s r.flight a k (with_words x q))
       pool'
   sent p stream m mode size pool message r q pool' h =
       let e : Enqueued = record { answer = r.answer; queued = r.flight.queued } in
-      rw h.count-alone (put_back pool message pool' q e (sending (state_of link rs acks) pool message) refl
-      (h.follows (state_of link rs acks) (parts p mode size)) p.counts-fit)
+      rw h.count_alone (put_back pool message pool' q e (sending (state_of link rs acks) pool message) refl
+      (h.follows (state_of link rs acks) (parts p mode size)) p.counts_fit_lem)

@@ -8,14 +8,14 @@ use Rattle.answers.specs.declared.Answer.{Answer}
 use Rattle.control.specs.declared.Flight.{Flight}
 use Rattle.control.specs.declared.Link.{Link}
 use Rattle.enqueue.specs.Enqueueing.{PartsOf, Follows}
-use Rattle.promises.specs.Parts.{lentLengths}
-use Rattle.promises.specs.Outcomes.{sendsWith}
+use Rattle.promises.specs.Parts.{lent_lengths}
+use Rattle.promises.specs.Outcomes.{sends_with}
 use Rattle.promises.specs.Cores.{SendCore}
 use Rattle.send_core.specs.declared.Submitted.{Submitted}
 
 -- the numbers with another count of queued segments
-abbrev pub withCount : Flight → ℕ → Flight
-withCount f n =
+abbrev pub with_count : Flight → ℕ → Flight
+with_count f n =
     record {
       una = f.una;
       next = f.next;
@@ -29,12 +29,12 @@ withCount f n =
 -- of the numbers the count alone changes, and with the list and the pool it is what sending gives
 pub record Enqueues (stream : Bool) (m : ℕ) (f : Flight) (queued marks pool message : List ℕ) (r : Submitted) (queued' pool' : List ℕ) : Type 0
   where
-    pub count-alone : r.flight ≡ withCount f r.flight.queued
+    pub count_alone : r.flight ≡ with_count f r.flight.queued
     pub follows : (s : State) → PartsOf s stream m queued f.queued f.outstanding marks
         → Follows (sending s pool message) queued f.queued pool (record { answer = r.answer; queued = r.flight.queued }) queued' pool'
 
 -- by the block before and after it
 abbrev pub SendLeaves : Link → List Record → ℕ → List ℕ → List ℕ → List ℕ → List ℕ → Answer → Link → List ℕ → Type 0
-SendLeaves l records table sendPool receivePool acks message a l' sendPool' =
-    SendCore (sendsWith l records acks (lentLengths table sendPool receivePool acks) sendPool message) l records acks sendPool a l'
+SendLeaves l records table send_pool receive_pool acks message a l' sendPool' =
+    SendCore (sends_with l records acks (lent_lengths table send_pool receive_pool acks) send_pool message) l records acks send_pool a l'
     sendPool'

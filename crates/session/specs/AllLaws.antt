@@ -17,9 +17,9 @@ module _ {A : Type 0} (P Q : A → Type 0) where
   all_one [] h = tt
   all_one (x ∷ l) h = (h.0.0, all_one l h.1)
 
-  pub all-other : (l : List A) → All (λ (x : A). P x × Q x) l → All Q l
-  all-other [] h = tt
-  all-other (x ∷ l) h = (h.0.1, all-other l h.1)
+  pub all_other : (l : List A) → All (λ (x : A). P x × Q x) l → All Q l
+  all_other [] h = tt
+  all_other (x ∷ l) h = (h.0.1, all_other l h.1)
 
   pub all_weaker : ((x : A) → P x → Q x) → (l : List A) → All P l → All Q l
   all_weaker f [] h = tt
@@ -57,21 +57,21 @@ module _ {A : Type 0} (P : A → Type 0) where
 -- ---- of what a function gives
 
 module _ {A B : Type 0} (P : B → Type 0) (f : A → B) where
-  pub all-mapped : (l : List A) → All (λ (x : A). P (f x)) l → All P (map f l)
-  all-mapped [] h = tt
-  all-mapped (x ∷ l) h = (h.0, all-mapped l h.1)
+  pub all_mapped : (l : List A) → All (λ (x : A). P (f x)) l → All P (map f l)
+  all_mapped [] h = tt
+  all_mapped (x ∷ l) h = (h.0, all_mapped l h.1)
 
-  pub all-unmapped : (l : List A) → All P (map f l) → All (λ (x : A). P (f x)) l
-  all-unmapped [] h = tt
-  all-unmapped (x ∷ l) h = (h.0, all-unmapped l h.1)
+  pub all_unmapped : (l : List A) → All P (map f l) → All (λ (x : A). P (f x)) l
+  all_unmapped [] h = tt
+  all_unmapped (x ∷ l) h = (h.0, all_unmapped l h.1)
 
 -- ---- of those that pass a test
 
 module _ {A : Type 0} (test : A → Bool) where
-  pub all-select : (P : A → Type 0) (l : List A) → All P l → All P (select test l)
+  pub all_select : (P : A → Type 0) (l : List A) → All P l → All P (select test l)
   unfolding select
-  all-select P [] a = tt
-  all-select P (x ∷ l) a = go (test x) (all-select P l a.1)
+  all_select P [] a = tt
+  all_select P (x ∷ l) a = go (test x) (all_select P l a.1)
     where
       go : (b : Bool) → All P (select test l) → All P (cond b (x ∷ select test l) (select test l))
       go true i = (a.0, i)

@@ -5,7 +5,7 @@ use mathlib.Core.List.{List, [], ◌∷◌, map}
 use Rattle.std.specs.Prelude.{ℕ, zero, suc, ◌+◌, ◌≤◌, ◌<◌, length, get_or}
 use Rattle.std.proofs.Common.{arith}
 use Rattle.lists.specs.Orders.{ascending}
-use Rattle.session.specs.Decides.{Decides, All, leb-decides, ltb-decides, and-decides, via}
+use Rattle.session.specs.Decides.{Decides, All, leb_decides, ltb_decides, and_decides, via}
 
 -- from each place to a later one the numbers rise
 abbrev pub Rising : List ℕ → Type 0
@@ -22,11 +22,11 @@ module _ {A : Type 0} (offset : A → ℕ) where
   Ascends least limit [] = Unit {0}
   Ascends least limit (x ∷ l) = (least ≤ offset x) × (offset x < limit) × Ascends (offset x + 1) limit l
 
-  pub ascends-decides : (least limit : ℕ) (l : List A) → Decides (ascending offset least limit l) (Ascends least limit l)
+  pub ascends_decides : (least limit : ℕ) (l : List A) → Decides (ascending offset least limit l) (Ascends least limit l)
   unfolding ascending
-  ascends-decides least limit [] = record { holds = λ e. tt; passes = λ x. refl }
-  ascends-decides least limit (x ∷ l) =
-      via (and-decides (and-decides (leb-decides least (offset x)) (ltb-decides (offset x) limit)) (ascends-decides (offset x + 1) limit l))
+  ascends_decides least limit [] = record { holds = λ e. tt; passes = λ x. refl }
+  ascends_decides least limit (x ∷ l) =
+      via (and_decides (and_decides (leb_decides least (offset x)) (ltb_decides (offset x) limit)) (ascends_decides (offset x + 1) limit l))
       (λ h. (h.0.0, h.0.1, h.1))
       (λ h. ((h.0, h.1), h.2))
 
@@ -37,35 +37,35 @@ module _ {A : Type 0} (offset : A → ℕ) where
   least_at least limit (x ∷ l) a zero h = a.0
   least_at least limit (x ∷ l) a (suc i) h = omega (arith, a.0, least_at (offset x + 1) limit l a.2 i (omega arith))
 
-  ascends-rising : (least limit : ℕ) (l : List A) → Ascends least limit l → Rising (map offset l)
-  ascends-rising least limit [] a i j h k = absurd (omega arith)
-  ascends-rising least limit (x ∷ l) a i zero h k = absurd (omega arith)
-  ascends-rising least limit (x ∷ l) a zero (suc j) h k = omega (arith, least_at (offset x + 1) limit l a.2 j (omega arith))
-  ascends-rising least limit (x ∷ l) a (suc i) (suc j) h k = ascends-rising (offset x + 1) limit l a.2 i j (omega arith) (omega arith)
+  ascends_rising : (least limit : ℕ) (l : List A) → Ascends least limit l → Rising (map offset l)
+  ascends_rising least limit [] a i j h k = absurd (omega arith)
+  ascends_rising least limit (x ∷ l) a i zero h k = absurd (omega arith)
+  ascends_rising least limit (x ∷ l) a zero (suc j) h k = omega (arith, least_at (offset x + 1) limit l a.2 j (omega arith))
+  ascends_rising least limit (x ∷ l) a (suc i) (suc j) h k = ascends_rising (offset x + 1) limit l a.2 i j (omega arith) (omega arith)
 
-  ascends-below : (least limit : ℕ) (l : List A) → Ascends least limit l → All (λ (x : A). offset x < limit) l
-  ascends-below least limit [] a = tt
-  ascends-below least limit (x ∷ l) a = (a.1, ascends-below (offset x + 1) limit l a.2)
+  ascends_below : (least limit : ℕ) (l : List A) → Ascends least limit l → All (λ (x : A). offset x < limit) l
+  ascends_below least limit [] a = tt
+  ascends_below least limit (x ∷ l) a = (a.1, ascends_below (offset x + 1) limit l a.2)
 
-  rising-ascends : (least limit : ℕ) (l : List A) →
+  rising_ascends : (least limit : ℕ) (l : List A) →
       Ascending offset limit l →
       ((i : ℕ) → i < length (map offset l) → least ≤ get_or (map offset l) i 0) →
       Ascends least limit l
-  rising-ascends least limit [] a from = tt
-  rising-ascends least limit (x ∷ l) a from =
+  rising_ascends least limit [] a from = tt
+  rising_ascends least limit (x ∷ l) a from =
       let rest : Ascending offset limit l =
       record { rising = λ i j h k. a.rising (suc i) (suc j) (omega arith) (omega arith); below = a.below.1 } in
       let above : (i : ℕ) → i < length (map offset l) → offset x + 1 ≤ get_or (map offset l) i 0 =
       λ i h. omega (arith, a.rising 0 (suc i) (omega arith) (omega arith)) in
-      (from 0 (omega arith), a.below.0, rising-ascends (offset x + 1) limit l rest above)
+      (from 0 (omega arith), a.below.0, rising_ascends (offset x + 1) limit l rest above)
 
-  pub ascends-ascending : (limit : ℕ) (l : List A) → Ascends 0 limit l → Ascending offset limit l
-  ascends-ascending limit l a = record { rising = ascends-rising 0 limit l a; below = ascends-below 0 limit l a }
+  pub ascends_ascending : (limit : ℕ) (l : List A) → Ascends 0 limit l → Ascending offset limit l
+  ascends_ascending limit l a = record { rising = ascends_rising 0 limit l a; below = ascends_below 0 limit l a }
 
-  pub ascending-ascends : (limit : ℕ) (l : List A) → Ascending offset limit l → Ascends 0 limit l
-  ascending-ascends limit l a = rising-ascends 0 limit l a (λ i h. omega arith)
+  pub ascending_ascends : (limit : ℕ) (l : List A) → Ascending offset limit l → Ascends 0 limit l
+  ascending_ascends limit l a = rising_ascends 0 limit l a (λ i h. omega arith)
 
   -- ---- the test decides the statement
 
-  pub ascending-decides : (limit : ℕ) (l : List A) → Decides (ascending offset 0 limit l) (Ascending offset limit l)
-  ascending-decides limit l = via (ascends-decides 0 limit l) (ascends-ascending limit l) (ascending-ascends limit l)
+  pub ascending_decides : (limit : ℕ) (l : List A) → Decides (ascending offset 0 limit l) (Ascending offset limit l)
+  ascending_decides limit l = via (ascends_decides 0 limit l) (ascends_ascending limit l) (ascending_ascends limit l)

@@ -15,19 +15,19 @@ abbrev pub All : {A : Type 0} → (A → Type 0) → List A → Type 0
 All P [] = Unit {0}
 All P (x ∷ l) = P x × All P l
 
-pub leb-decides : (m n : ℕ) → Decides (leb m n) (m ≤ n)
-leb-decides m n = record { holds = leb-true m n; passes = le-leb m n }
+pub leb_decides : (m n : ℕ) → Decides (leb m n) (m ≤ n)
+leb_decides m n = record { holds = leb-true m n; passes = le-leb m n }
 
-pub ltb-decides : (m n : ℕ) → Decides (ltb m n) (m < n)
-ltb-decides m n = record { holds = ltb-true m n; passes = lt-ltb m n }
+pub ltb_decides : (m n : ℕ) → Decides (ltb m n) (m < n)
+ltb_decides m n = record { holds = ltb-true m n; passes = lt-ltb m n }
 
-pub eqb-decides : (m n : ℕ) → Decides (eqb m n) (m ≡ n)
-eqb-decides m n = record { holds = eqb-true m n; passes = eq-eqb m n }
+pub eqb_decides : (m n : ℕ) → Decides (eqb m n) (m ≡ n)
+eqb_decides m n = record { holds = eqb-true m n; passes = eq-eqb m n }
 
 -- a test that must fail
-pub not-decides : (b : Bool) → Decides (not b) (b ≡ false)
-not-decides true = record { holds = λ e. sym e; passes = λ e. sym e }
-not-decides false = record { holds = λ e. refl; passes = λ e. refl }
+pub not_decides : (b : Bool) → Decides (not b) (b ≡ false)
+not_decides true = record { holds = λ e. sym e; passes = λ e. sym e }
+not_decides false = record { holds = λ e. refl; passes = λ e. refl }
 
 pub and_parts : (a b : Bool) → (a && b) ≡ true → (a ≡ true) × (b ≡ true)
 and_parts true b e = (refl, e)
@@ -37,8 +37,8 @@ pub or_parts : (a b : Bool) → (a || b) ≡ false → (a ≡ false) × (b ≡ f
 or_parts true b e = absurd (true≢false e)
 or_parts false b e = (refl, e)
 
-pub and-decides : {a b : Bool} {P Q : Type 0} → Decides a P → Decides b Q → Decides (a && b) (P × Q)
-and-decides {a} {b} p q = record {
+pub and_decides : {a b : Bool} {P Q : Type 0} → Decides a P → Decides b Q → Decides (a && b) (P × Q)
+and_decides {a} {b} p q = record {
   holds = λ e. let h = and_parts a b e in (p.holds h.0, q.holds h.1);
   passes = λ x. both (p.passes x.0) (q.passes x.1);
 }
@@ -50,7 +50,7 @@ and-decides {a} {b} p q = record {
 pub via : {b : Bool} {P Q : Type 0} → Decides b P → (P → Q) → (Q → P) → Decides b Q
 via d f g = record { holds = λ e. f (d.holds e); passes = λ x. d.passes (g x) }
 
-pub all-decides : {A : Type 0} (test : A → Bool) (P : A → Type 0) → ((x : A) → Decides (test x) (P x)) → (l : List A)
+pub all_decides : {A : Type 0} (test : A → Bool) (P : A → Type 0) → ((x : A) → Decides (test x) (P x)) → (l : List A)
     → Decides (all test l) (All P l)
-all-decides test P d [] = record { holds = λ e. tt; passes = λ x. refl }
-all-decides test P d (x ∷ l) = and-decides (d x) (all-decides test P d l)
+all_decides test P d [] = record { holds = λ e. tt; passes = λ x. refl }
+all_decides test P d (x ∷ l) = and_decides (d x) (all_decides test P d l)

@@ -2,45 +2,45 @@
 -- Assumes nothing.
 use Rattle.std.specs.Prelude.{Bool, true, false, cond, ◌||◌, ◌&&◌, ℕ, suc, ◌+◌, ◌-◌, ◌*◌, min, leb, eqb, length, take, drop}
 use mathlib.Core.List.{List, [], ◌∷◌, ◌++◌, map, foldl}
-use Rattle.protocol.specs.Protocol.{push, ack, windowAsk, windowTell, headerSize, receiveWindow, deadAfter}
-use Rattle.protocol.specs.Ranges.{mss, controlsCongestion}
+use Rattle.protocol.specs.Protocol.{push, ack, window_ask, window_tell, header_size, receive_window, dead_after}
+use Rattle.protocol.specs.Ranges.{mss, controls_congestion}
 use Rattle.protocol.specs.Serial.{plus, minus}
 use Rattle.wire.specs.Headers.{encode}
 use Rattle.wire.specs.declared.Header.{Header}
 use Rattle.protocol.specs.declared.Settings.{Settings}
 use Rattle.datagram.specs.Datagrams.{Segment}
-use Rattle.congestion.specs.Congestions.{usedWindow, afterFlush}
+use Rattle.congestion.specs.Congestions.{used_window, after_flush}
 use Rattle.congestion.specs.declared.Losses.{Losses}
 use Rattle.retransmission.specs.Transmissions.{transmission}
 use Rattle.retransmission.specs.declared.Transmission.{Transmission}
-use Rattle.timing.specs.Probes.{nextClock}
+use Rattle.timing.specs.Probes.{next_clock}
 use Rattle.timing.specs.declared.Record.{Record}
 use Rattle.lists.specs.declared.Held.{Held}
 use Rattle.lists.specs.declared.Sent.{Sent}
-use Rattle.session.specs.State.{State, Sending, Receiving, Ack, withNumbers, withNotes, afterFlushing}
+use Rattle.session.specs.State.{State, Sending, Receiving, Ack, with_numbers, with_notes, after_flushing}
 
 -- ---- numbering
 
 -- a queued segment gets a number, and transmissions and skips 0; its timeout and due time come with its first transmission
-abbrev pub numberedAs : ℕ → Held → Sent
-numberedAs n h = record { held = h; transmissions = 0; «record» = record { number = n; due = 0; timeout = 0; skips = 0 } }
+abbrev pub numbered_as : ℕ → Held → Sent
+numbered_as n h = record { held = h; transmissions = 0; «record» = record { number = n; due = 0; timeout = 0; skips = 0 } }
 
 -- numbers counting up from n
 unfoldable pub numbered : ℕ → List Held → List Sent
 numbered n [] = []
-numbered n (h ∷ q) = numberedAs n h ∷ numbered (plus n 1) q
+numbered n (h ∷ q) = numbered_as n h ∷ numbered (plus n 1) q
 
 -- the window that a flush goes by: the least of 32, the peer's last window and, with the setting on, the congestion window
-abbrev pub windowOf : State → ℕ
-windowOf s = usedWindow (controlsCongestion s.settings) s.sending.window s.congestion.window
+abbrev pub window_of : State → ℕ
+window_of s = used_window (controls_congestion s.settings) s.sending.window s.congestion.window
 
 -- how many are numbered: while snd_nxt - snd_una is below the window
-unfoldable pub numberedCount : ℕ → Sending → ℕ
-numberedCount window s = min (length s.queued) (window - minus s.next s.una)
+unfoldable pub numbered_count : ℕ → Sending → ℕ
+numbered_count window s = min (length s.queued) (window - minus s.next s.una)
 
 -- the outstanding segments, with those that are numbered now
-unfoldable pub withNumbered : Sending → ℕ → List Sent
-withNumbered s k = s.outstanding ++ numbered s.next (take k s.queued)
+unfoldable pub with_numbered : Sending → ℕ → List Sent
+with_numbered s k = s.outstanding ++ numbered s.next (take k s.queued)
 
 -- ---- the rule for each outstanding segment
 
@@ -58,16 +58,16 @@ abbrev pub ruled : Settings → ℕ → ℕ → List Sent → List Ruled
 ruled c timeout t = map (ruling c timeout t)
 
 -- one as its rule leaves it, and all of them
-abbrev pub afterRule : Ruled → Sent
-afterRule r = record { held = r.segment.held; transmissions = r.rule.transmissions; «record» = r.rule.updated }
+abbrev pub after_rule : Ruled → Sent
+after_rule r = record { held = r.segment.held; transmissions = r.rule.transmissions; «record» = r.rule.updated }
 
 abbrev pub afterwards : List Ruled → List Sent
-afterwards = map afterRule
+afterwards = map after_rule
 
 -- those that are transmitted, as they are then
 unfoldable pub transmitted : List Ruled → List Sent
 transmitted [] = []
-transmitted (r ∷ rules) = cond r.rule.sends (afterRule r ∷ transmitted rules) (transmitted rules)
+transmitted (r ∷ rules) = cond r.rule.sends (after_rule r ∷ transmitted rules) (transmitted rules)
 
 -- the test holds of one of them
 abbrev pub some : {A : Type 0} → (A → Bool) → List A → Bool
@@ -75,20 +75,20 @@ some test [] = false
 some test (x ∷ l) = test x || some test l
 
 -- one of those transmitted was so 20 times
-abbrev pub someDead : List Sent → Bool
-someDead = some (λ (x : Sent). eqb x.transmissions deadAfter)
+abbrev pub some_dead : List Sent → Bool
+some_dead = some (λ (x : Sent). eqb x.transmissions dead_after)
 
 -- what a flush that numbers k tells of losses: one was sent because it was skipped, or because it was due; in flight are the numbers from
 -- snd_una to snd_nxt at its end
-abbrev pub lossesOf : State → ℕ → List Ruled → Losses
-lossesOf s k rules =
+abbrev pub losses_of : State → ℕ → List Ruled → Losses
+losses_of s k rules =
     let d = s.sending in
     record {
       fast = some (λ (r : Ruled). r.rule.fast) rules;
       late = some (λ (r : Ruled). r.rule.late) rules;
       skips = s.settings.threshold;
       inflight = minus (plus d.next k) d.una;
-      used = windowOf s;
+      used = window_of s;
     }
 
 -- ---- what is written
@@ -100,7 +100,7 @@ pub record Carried : Type 0 where
   pub una : ℕ
 
 abbrev pub carried : State → Carried
-carried s = record { conv = s.settings.conv; wnd = receiveWindow - length s.receiving.ready; una = s.receiving.next }
+carried s = record { conv = s.settings.conv; wnd = receive_window - length s.receiving.ready; una = s.receiving.next }
 
 -- acks, asks and tells: fragment and len 0
 abbrev pub control : Carried → ℕ → ℕ → ℕ → Segment
@@ -108,12 +108,12 @@ control c cmd sn ts =
     record { header = record { conv = c.conv; cmd = cmd; frg = 0; wnd = c.wnd; ts = ts; sn = sn; una = c.una; len = 0 }; payload = [] }
 
 -- acks copy the pushed sn and ts
-abbrev pub ackSegment : Carried → Ack → Segment
-ackSegment c a = control c ack a.sn a.ts
+abbrev pub ack_segment : Carried → Ack → Segment
+ack_segment c a = control c ack a.sn a.ts
 
 -- data: ts = t, and the payload from its slot, which starts at slot x mss
-abbrev pub dataSegment : Carried → ℕ → ℕ → List ℕ → Sent → Segment
-dataSegment c m t pool x =
+abbrev pub data_segment : Carried → ℕ → ℕ → List ℕ → Sent → Segment
+data_segment c m t pool x =
     record {
       header = record {
         conv = c.conv;
@@ -136,20 +136,20 @@ wished b g = cond b (g ∷ []) []
 unfoldable pub written : State → ℕ → List ℕ → Bool → List Sent → List Segment
 written s t pool ask sent =
     let c = carried s in
-    map (ackSegment c) s.receiving.acks
-    ++ (wished ask (control c windowAsk 0 0)
-    ++ (wished s.receiving.tell (control c windowTell 0 0)
-    ++ map (dataSegment c (mss s.settings) t pool) sent))
+    map (ack_segment c) s.receiving.acks
+    ++ (wished ask (control c window_ask 0 0)
+    ++ (wished s.receiving.tell (control c window_tell 0 0)
+    ++ map (data_segment c (mss s.settings) t pool) sent))
 
 -- ---- packing
 
 -- the bytes of a segment, and of segments one behind the other
-abbrev pub bytesOfSegment : Segment → List ℕ
-bytesOfSegment g = encode g.header ++ g.payload
+abbrev pub bytes_of_segment : Segment → List ℕ
+bytes_of_segment g = encode g.header ++ g.payload
 
-unfoldable pub bytesOfSegments : List Segment → List ℕ
-bytesOfSegments [] = []
-bytesOfSegments (g ∷ gs) = bytesOfSegment g ++ bytesOfSegments gs
+unfoldable pub bytes_of_segments : List Segment → List ℕ
+bytes_of_segments [] = []
+bytes_of_segments (g ∷ gs) = bytes_of_segment g ++ bytes_of_segments gs
 
 -- datagrams that are closed, and the one that is being filled
 pub record Packing : Type 0 where
@@ -157,21 +157,21 @@ pub record Packing : Type 0 where
   pub filling : List Segment
 
 -- a segment that would take a datagram past mtu starts a new one
-unfoldable pub packOne : ℕ → Packing → Segment → Packing
-packOne mtu p g =
-    cond (leb (length (bytesOfSegments p.filling) + length (bytesOfSegment g)) mtu)
+unfoldable pub pack_one : ℕ → Packing → Segment → Packing
+pack_one mtu p g =
+    cond (leb (length (bytes_of_segments p.filling) + length (bytes_of_segment g)) mtu)
     (record { closed = p.closed; filling = p.filling ++ (g ∷ []) })
     (record { closed = p.closed ++ (p.filling ∷ []); filling = g ∷ [] })
 
 -- the datagrams of a packing: the last one too, unless it is empty
-abbrev pub datagramsOf : List (List Segment) → List Segment → List (List Segment)
-datagramsOf closed [] = closed
-datagramsOf closed (g ∷ gs) = closed ++ ((g ∷ gs) ∷ [])
+abbrev pub datagrams_of : List (List Segment) → List Segment → List (List Segment)
+datagrams_of closed [] = closed
+datagrams_of closed (g ∷ gs) = closed ++ ((g ∷ gs) ∷ [])
 
 unfoldable pub packed : ℕ → List Segment → List (List Segment)
 packed mtu gs =
-    let p = foldl (packOne mtu) (record { closed = []; filling = [] }) gs in
-    datagramsOf p.closed p.filling
+    let p = foldl (pack_one mtu) (record { closed = []; filling = [] }) gs in
+    datagrams_of p.closed p.filling
 
 -- ---- the flush
 
@@ -186,13 +186,13 @@ unfoldable pub flushing : State → ℕ → List ℕ → Flushed
 flushing s t pool =
     let c = s.settings in
     let d = s.sending in
-    let k = numberedCount (windowOf s) d in
-    let rules = ruled c d.roundTrip.timeout t (withNumbered d k) in
+    let k = numbered_count (window_of s) d in
+    let rules = ruled c d.round_trip.timeout t (with_numbered d k) in
     let sent = transmitted rules in
-    let probed = nextClock s.probe t d.window in
+    let probed = next_clock s.probe t d.window in
     record {
       datagrams = packed c.mtu (written s t pool (s.ask || probed.ask) sent);
       state =
-          afterFlushing s (withNumbers d (plus d.next k) (drop k d.queued) (afterwards rules)) (withNotes s.receiving [] false)
-          probed.clock t (afterFlush s.congestion (mss c) (lossesOf s k rules)) (s.dead || someDead sent);
+          after_flushing s (with_numbers d (plus d.next k) (drop k d.queued) (afterwards rules)) (with_notes s.receiving [] false)
+          probed.clock t (after_flush s.congestion (mss c) (losses_of s k rules)) (s.dead || some_dead sent);
     }

@@ -1,54 +1,54 @@
 -- Refusal 13's conditions on a whole state as a plain statement, and that the test passes exactly where they hold.
 -- Assumes nothing.
 use Rattle.std.specs.Prelude.{Bool, ◌≤◌}
-use Rattle.protocol.specs.Protocol.{mtuLeast, mtuMost, modeMost, intervalLeast, intervalMost, thresholdMost, streamMost, congestionMost}
+use Rattle.protocol.specs.Protocol.{mtu_least, mtu_most, mode_most, interval_least, interval_most, threshold_most, stream_most, congestion_most}
 use Rattle.protocol.specs.Ranges.{in_range, mss}
 use Rattle.protocol.specs.declared.Settings.{Settings}
 use Rattle.congestion.specs.Congestions.{InRange}
 use Rattle.timing.specs.TimeRanges.{WaitInRange}
 use Rattle.session.specs.State.{State}
 use Rattle.session.specs.Valid.{valid}
-use Rattle.session.specs.Decides.{Decides, leb-decides, and-decides, via}
-use Rattle.session.specs.SendingValid.{SendingIsValid, sending-decides, probe-decides, congestion-decides}
-use Rattle.session.specs.ReceivingValid.{ReceivingIsValid, receiving-decides}
+use Rattle.session.specs.Decides.{Decides, leb_decides, and_decides, via}
+use Rattle.session.specs.SendingValid.{SendingIsValid, sending_decides, probe_decides, congestion_decides}
+use Rattle.session.specs.ReceivingValid.{ReceivingIsValid, receiving_decides}
 
 -- settings in range
 pub record SettingsInRange (c : Settings) : Type 0 where
-  pub mtu-least : mtuLeast ≤ c.mtu
-  pub mtu-most : c.mtu ≤ mtuMost
-  pub mode : c.mode ≤ modeMost
-  pub interval-least : intervalLeast ≤ c.interval
-  pub interval-most : c.interval ≤ intervalMost
-  pub threshold : c.threshold ≤ thresholdMost
-  pub stream : c.stream ≤ streamMost
-  pub congestion : c.congestion ≤ congestionMost
+  pub mtu_least_lem : mtu_least ≤ c.mtu
+  pub mtu_most_lem : c.mtu ≤ mtu_most
+  pub mode : c.mode ≤ mode_most
+  pub interval_least_lem : interval_least ≤ c.interval
+  pub interval_most_lem : c.interval ≤ interval_most
+  pub threshold : c.threshold ≤ threshold_most
+  pub stream : c.stream ≤ stream_most
+  pub congestion : c.congestion ≤ congestion_most
 
-pub settings-decide : (c : Settings) → Decides (in_range c) (SettingsInRange c)
-settings-decide c =
+pub settings_decide : (c : Settings) → Decides (in_range c) (SettingsInRange c)
+settings_decide c =
     via
-    (and-decides
-    (and-decides
-    (and-decides
-    (and-decides
-    (and-decides
-    (and-decides (and-decides (leb-decides mtuLeast c.mtu) (leb-decides c.mtu mtuMost)) (leb-decides c.mode modeMost))
-    (leb-decides intervalLeast c.interval))
-    (leb-decides c.interval intervalMost))
-    (leb-decides c.threshold thresholdMost))
-    (leb-decides c.stream streamMost))
-    (leb-decides c.congestion congestionMost))
+    (and_decides
+    (and_decides
+    (and_decides
+    (and_decides
+    (and_decides
+    (and_decides (and_decides (leb_decides mtu_least c.mtu) (leb_decides c.mtu mtu_most)) (leb_decides c.mode mode_most))
+    (leb_decides interval_least c.interval))
+    (leb_decides c.interval interval_most))
+    (leb_decides c.threshold threshold_most))
+    (leb_decides c.stream stream_most))
+    (leb_decides c.congestion congestion_most))
     (λ x.
     record {
-      mtu-least = x.0.0.0.0.0.0.0;
-      mtu-most = x.0.0.0.0.0.0.1;
+      mtu_least_lem = x.0.0.0.0.0.0.0;
+      mtu_most_lem = x.0.0.0.0.0.0.1;
       mode = x.0.0.0.0.0.1;
-      interval-least = x.0.0.0.0.1;
-      interval-most = x.0.0.0.1;
+      interval_least_lem = x.0.0.0.0.1;
+      interval_most_lem = x.0.0.0.1;
       threshold = x.0.0.1;
       stream = x.0.1;
       congestion = x.1;
     })
-    (λ x. (((((((x.mtu-least, x.mtu-most), x.mode), x.interval-least), x.interval-most), x.threshold), x.stream), x.congestion))
+    (λ x. (((((((x.mtu_least_lem, x.mtu_most_lem), x.mode), x.interval_least_lem), x.interval_most_lem), x.threshold), x.stream), x.congestion))
 
 -- a state that a link makes
 pub record IsValid (s : State) : Type 0 where
@@ -58,15 +58,15 @@ pub record IsValid (s : State) : Type 0 where
   pub probe : WaitInRange s.probe.wait
   pub congestion : InRange (mss s.settings) s.congestion
 
-pub valid-decides : (s : State) → Decides (valid s) (IsValid s)
+pub valid_decides : (s : State) → Decides (valid s) (IsValid s)
 unfolding valid
-valid-decides s =
+valid_decides s =
     via
-    (and-decides
-    (and-decides
-    (and-decides (and-decides (settings-decide s.settings) (sending-decides s.settings s.sending))
-    (receiving-decides s.settings s.receiving))
-    (probe-decides s.probe))
-    (congestion-decides (mss s.settings) s.congestion))
+    (and_decides
+    (and_decides
+    (and_decides (and_decides (settings_decide s.settings) (sending_decides s.settings s.sending))
+    (receiving_decides s.settings s.receiving))
+    (probe_decides s.probe))
+    (congestion_decides (mss s.settings) s.congestion))
     (λ x. record { settings = x.0.0.0.0; sending = x.0.0.0.1; receiving = x.0.0.1; probe = x.0.1; congestion = x.1 })
     (λ x. ((((x.settings, x.sending), x.receiving), x.probe), x.congestion))

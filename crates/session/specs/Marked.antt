@@ -2,41 +2,41 @@
 -- Assumes nothing.
 use Rattle.std.specs.Prelude.{◌≡◌, refl, Bool, true, false, cond, ℕ, ◌^◌, leb, length, replicate, ℤ, pos, neg_ℤ}
 use mathlib.Core.List.{List, [], ◌∷◌, ◌++◌, map, foldl}
-use Rattle.protocol.specs.Protocol.{push, timeoutFirst}
+use Rattle.protocol.specs.Protocol.{push, timeout_first}
 use Rattle.protocol.specs.Refusals.{number_of}
-use Rattle.protocol.specs.Serial.{minus, signed, isBefore, isAfter, isDue}
+use Rattle.protocol.specs.Serial.{minus, signed, is_before, is_after, is_due}
 use Rattle.wire.specs.LittleEndian.{bytes_of, number_at}
 use Rattle.wire.specs.Headers.{encode, front, back, decode}
 use Rattle.protocol.specs.declared.Settings.{Settings}
 use Rattle.wire.specs.declared.Header.{Header}
-use Rattle.datagram.specs.Datagrams.{Segment, Parsed, parse, walk, tail, verdict, segmentOf}
-use Rattle.timing.specs.Probes.{stopped, longerWait, nextClock}
-use Rattle.timing.specs.RoundTrips.{nextSmoothed, nextVariation, leastTimeout, timeoutOf, sampled}
-use Rattle.congestion.specs.Congestions.{usedWindow}
-use Rattle.retransmission.specs.Transmissions.{firstDue, growth, longerTimeout, isSkipped, transmission}
+use Rattle.datagram.specs.Datagrams.{Segment, Parsed, parse, walk, tail, verdict, segment_of}
+use Rattle.timing.specs.Probes.{stopped, longer_wait, next_clock}
+use Rattle.timing.specs.RoundTrips.{next_smoothed, next_variation, least_timeout, timeout_of, sampled}
+use Rattle.congestion.specs.Congestions.{used_window}
+use Rattle.retransmission.specs.Transmissions.{first_due, growth, longer_timeout, is_skipped, transmission}
 use Rattle.timing.specs.declared.ProbeClock.{ProbeClock}
 use Rattle.timing.specs.declared.Record.{Record}
 use Rattle.timing.specs.declared.RoundTrip.{RoundTrip}
 use Rattle.lists.specs.Orders.{insert, is_held}
 use Rattle.lists.specs.Receiving.{advance}
 use Rattle.lists.specs.declared.Waiting.{Waiting}
-use Rattle.session.specs.Slots.{occurs, lowestFrom, lowestFree}
-use Rattle.session.specs.State.{State, Sending, Receiving, Ack, Outcome, withReceiving, withNotes}
+use Rattle.session.specs.Slots.{occurs, lowest_from, lowest_free}
+use Rattle.session.specs.State.{State, Sending, Receiving, Ack, Outcome, with_receiving, with_notes}
 use Rattle.session.specs.Opening.{opened}
-use Rattle.session.specs.Cutting.{fragmentCount, segmentCount, pieces, cut, cutAs}
+use Rattle.session.specs.Cutting.{fragment_count, segment_count, pieces, cut, cut_as}
 use Rattle.session.specs.Sending.{Sends, sending, place, Placed, filled}
 use Rattle.session.specs.Flushing.{
   Flushed,
   flushing,
-  numberedCount,
-  withNumbered,
+  numbered_count,
+  with_numbered,
   numbered,
   transmitted,
   written,
   packed,
-  packOne,
-  bytesOfSegment,
-  bytesOfSegments,
+  pack_one,
+  bytes_of_segment,
+  bytes_of_segments,
 }
 use Rattle.session.specs.Input.{Receiver, pushed}
 
@@ -52,8 +52,8 @@ pub data Value : Type 0 where
   difference : ℤ → Value
   lengths : List ℕ → Value
   count : ℕ → Value
-  refusedBy : ℕ → Value
-  roundTrips : List RoundTrip → Value
+  refused_by : ℕ → Value
+  round_trips : List RoundTrip → Value
   flushes : List Flush → Value
   waits : List ℕ → Value
   noted : List ℕ → List Ack → Value
@@ -71,8 +71,8 @@ hi =
       payload = 0x68 ∷ 0x69 ∷ [];
     }
 
-abbrev hi-bytes : List ℕ
-hi-bytes = 0x01 ∷ 0x00 ∷ 0x00 ∷ 0x00 ∷ 0x51 ∷ 0x00 ∷ 0x80 ∷ 0x00 ∷ 0x00 ∷ 0x00 ∷ 0x00 ∷ 0x00 ∷ 0x00 ∷ 0x00 ∷ 0x00 ∷ 0x00 ∷ 0x00
+abbrev hi_bytes : List ℕ
+hi_bytes = 0x01 ∷ 0x00 ∷ 0x00 ∷ 0x00 ∷ 0x51 ∷ 0x00 ∷ 0x80 ∷ 0x00 ∷ 0x00 ∷ 0x00 ∷ 0x00 ∷ 0x00 ∷ 0x00 ∷ 0x00 ∷ 0x00 ∷ 0x00 ∷ 0x00
     ∷ 0x00
     ∷ 0x00 ∷ 0x00 ∷ 0x02 ∷ 0x00 ∷ 0x00 ∷ 0x00 ∷ 0x68 ∷ 0x69 ∷ []
 
@@ -82,33 +82,33 @@ abbrev small : Settings
 small = record { conv = 1; mtu = 50; interval = 100; mode = 0; threshold = 0; stream = 0; congestion = 0 }
 
 -- what sending so many bytes over a fresh link gives: the lengths of the segments queued, or the refusal's number
-abbrev lengthsQueued : Outcome Sends → Value
-lengthsQueued (Outcome.refused r) = refusedBy (number_of r)
-lengthsQueued (Outcome.done x) = lengths (map (λ h. h.len) x.state.sending.queued)
+abbrev lengths_queued : Outcome Sends → Value
+lengths_queued (Outcome.refused r) = refused_by (number_of r)
+lengths_queued (Outcome.done x) = lengths (map (λ h. h.len) x.state.sending.queued)
 
-abbrev countQueued : Outcome Sends → Value
-countQueued (Outcome.refused r) = refusedBy (number_of r)
-countQueued (Outcome.done x) = count (length x.state.sending.queued)
+abbrev count_queued : Outcome Sends → Value
+count_queued (Outcome.refused r) = refused_by (number_of r)
+count_queued (Outcome.done x) = count (length x.state.sending.queued)
 
-abbrev sendOf : ℕ → Outcome Sends
-sendOf n = sending (opened small) [] (replicate n 0)
+abbrev send_of : ℕ → Outcome Sends
+send_of n = sending (opened small) [] (replicate n 0)
 
 -- ---- E: the round trip after each of the samples
 
-unfoldable pub afterSamples : Settings → RoundTrip → List ℕ → List RoundTrip
-afterSamples c p [] = []
-afterSamples c p (r ∷ rs) = let q = sampled p c r in q ∷ afterSamples c q rs
+unfoldable pub after_samples : Settings → RoundTrip → List ℕ → List RoundTrip
+after_samples c p [] = []
+after_samples c p (r ∷ rs) = let q = sampled p c r in q ∷ after_samples c q rs
 
 -- ---- F and G: a segment with n transmissions and the record r, after each of the flushes at these times
 
-unfoldable pub afterFlushes : Settings → ℕ → ℕ → Record → List ℕ → List Flush
-afterFlushes c link n r [] = []
-afterFlushes c link n r (t ∷ ts) =
+unfoldable pub after_flushes : Settings → ℕ → ℕ → Record → List ℕ → List Flush
+after_flushes c link n r [] = []
+after_flushes c link n r (t ∷ ts) =
     let x = transmission c link t n r in
-    record { sends = x.sends; due = x.updated.due } ∷ afterFlushes c link x.transmissions x.updated ts
+    record { sends = x.sends; due = x.updated.due } ∷ after_flushes c link x.transmissions x.updated ts
 
-abbrev inMode : ℕ → Settings
-inMode mode = record { conv = 1; mtu = 50; interval = 100; mode = mode; threshold = 0; stream = 0; congestion = 0 }
+abbrev in_mode : ℕ → Settings
+in_mode mode = record { conv = 1; mtu = 50; interval = 100; mode = mode; threshold = 0; stream = 0; congestion = 0 }
 
 abbrev unsent : Record
 unsent = record { number = 0; due = 0; timeout = 0; skips = 0 }
@@ -121,67 +121,67 @@ stays due = record { sends = false; due = due }
 
 -- ---- H: the clock's wait after each of the flushes at these times, the peer's window being 0
 
-unfoldable pub waitsAt : ProbeClock → List ℕ → List ℕ
-waitsAt c [] = []
-waitsAt c (t ∷ ts) = let x = nextClock c t 0 in x.clock.wait ∷ waitsAt x.clock ts
+unfoldable pub waits_at : ProbeClock → List ℕ → List ℕ
+waits_at c [] = []
+waits_at c (t ∷ ts) = let x = next_clock c t 0 in x.clock.wait ∷ waits_at x.clock ts
 
 -- ---- I: a push with this number comes to a fresh link
 
-abbrev pushOf : ℕ → Segment
-pushOf sn = record { header = record { conv = 1; cmd = push; frg = 0; wnd = 128; ts = 7; sn = sn; una = 0; len = 0 }; payload = [] }
+abbrev push_of : ℕ → Segment
+push_of sn = record { header = record { conv = 1; cmd = push; frg = 0; wnd = 128; ts = 7; sn = sn; una = 0; len = 0 }; payload = [] }
 
 -- the waiting numbers, and the acks noted
 abbrev received : ℕ → Value
 received sn =
-    let r = (pushed 26 (record { half = (opened small).receiving; pool = [] }) (pushOf sn)).half in
+    let r = (pushed 26 (record { half = (opened small).receiving; pool = [] }) (push_of sn)).half in
     noted (map (λ (w : Waiting). w.number) r.waiting) r.acks
 
 -- ---- J
 
-abbrev withThreeAcks : State
-withThreeAcks =
+abbrev with_three_acks : State
+with_three_acks =
     let s = opened small in
     let a : Ack = record { sn = 0; ts = 0 } in
-    withReceiving s (withNotes s.receiving (a ∷ a ∷ a ∷ []) false)
+    with_receiving s (with_notes s.receiving (a ∷ a ∷ a ∷ []) false)
 
 unfoldable pub cases : List Case
 cases =
     -- A
-    record { is = bytes (bytesOfSegment hi); wanted = bytes hi-bytes }
-    ∷ record { is = parsed (parse 1 488 hi-bytes); wanted = parsed (Parsed.segments (hi ∷ [])) }
+    record { is = bytes (bytes_of_segment hi); wanted = bytes hi_bytes }
+    ∷ record { is = parsed (parse 1 488 hi_bytes); wanted = parsed (Parsed.segments (hi ∷ [])) }
     -- B
     ∷ record { is = difference (signed (minus 0 4294967295)); wanted = difference (pos 1) }
     ∷ record { is = difference (signed (minus (2 ^ 31) 0)); wanted = difference (neg_ℤ (pos (2 ^ 31))) }
     -- C
-    ∷ record { is = lengthsQueued (sendOf 0); wanted = lengths (0 ∷ []) }
-    ∷ record { is = lengthsQueued (sendOf 26); wanted = lengths (26 ∷ []) }
-    ∷ record { is = lengthsQueued (sendOf 27); wanted = lengths (26 ∷ 1 ∷ []) }
+    ∷ record { is = lengths_queued (send_of 0); wanted = lengths (0 ∷ []) }
+    ∷ record { is = lengths_queued (send_of 26); wanted = lengths (26 ∷ []) }
+    ∷ record { is = lengths_queued (send_of 27); wanted = lengths (26 ∷ 1 ∷ []) }
     -- D
-    ∷ record { is = countQueued (sendOf 3302); wanted = count 127 }
-    ∷ record { is = countQueued (sendOf 3303); wanted = refusedBy 10 }
+    ∷ record { is = count_queued (send_of 3302); wanted = count 127 }
+    ∷ record { is = count_queued (send_of 3303); wanted = refused_by 10 }
     -- E
     ∷ record {
-      is = roundTrips (afterSamples small (opened small).sending.roundTrip (50 ∷ 90 ∷ []));
-      wanted = roundTrips (record { smoothed = 50; variation = 25; timeout = 150 } ∷ record { smoothed = 55; variation = 28; timeout = 167 }
+      is = round_trips (after_samples small (opened small).sending.round_trip (50 ∷ 90 ∷ []));
+      wanted = round_trips (record { smoothed = 50; variation = 25; timeout = 150 } ∷ record { smoothed = 55; variation = 28; timeout = 167 }
           ∷ []);
     }
     -- F
     ∷ record {
-      is = flushes (afterFlushes (inMode 0) 200 0 unsent (1000 ∷ 1224 ∷ 1225 ∷ []));
+      is = flushes (after_flushes (in_mode 0) 200 0 unsent (1000 ∷ 1224 ∷ 1225 ∷ []));
       wanted = flushes (sent 1225 ∷ stays 1225 ∷ sent 1625 ∷ []);
     }
     -- G
     ∷ record {
-      is = flushes (afterFlushes (inMode 1) 200 0 unsent (1000 ∷ 1199 ∷ 1200 ∷ 1499 ∷ 1500 ∷ []));
+      is = flushes (after_flushes (in_mode 1) 200 0 unsent (1000 ∷ 1199 ∷ 1200 ∷ 1499 ∷ 1500 ∷ []));
       wanted = flushes (sent 1200 ∷ stays 1200 ∷ sent 1500 ∷ stays 1500 ∷ sent 1950 ∷ []);
     }
     ∷ record {
-      is = flushes (afterFlushes (inMode 2) 200 0 unsent (1000 ∷ 1199 ∷ 1200 ∷ 1499 ∷ 1500 ∷ []));
+      is = flushes (after_flushes (in_mode 2) 200 0 unsent (1000 ∷ 1199 ∷ 1200 ∷ 1499 ∷ 1500 ∷ []));
       wanted = flushes (sent 1200 ∷ stays 1200 ∷ sent 1500 ∷ stays 1500 ∷ sent 1900 ∷ []);
     }
     -- H
     ∷ record {
-      is = waits (waitsAt stopped (0 ∷ 7000 ∷ 17500 ∷ 33250 ∷ []));
+      is = waits (waits_at stopped (0 ∷ 7000 ∷ 17500 ∷ 33250 ∷ []));
       wanted = waits (7000 ∷ 10500 ∷ 15750 ∷ 23625 ∷ []);
     }
     -- I
@@ -189,14 +189,14 @@ cases =
     ∷ record { is = received 128; wanted = noted [] [] }
     -- J
     ∷ record {
-      is = lengths (map (λ d. length (bytesOfSegments d)) (flushing withThreeAcks 0 []).datagrams);
+      is = lengths (map (λ d. length (bytes_of_segments d)) (flushing with_three_acks 0 []).datagrams);
       wanted = lengths (48 ∷ 24 ∷ []);
     }
     ∷ []
 
 pub marked : map (λ (c : Case). c.is) cases ≡ map (λ (c : Case). c.wanted) cases
-unfolding cases encode front back decode bytes_of number_at bytesOfSegments parse walk tail verdict segmentOf signed isBefore isAfter isDue
-    opened fragmentCount segmentCount pieces cut cutAs filled sending place lowestFree lowestFrom occurs pushed insert is_held advance
-    flushing usedWindow numberedCount withNumbered numbered transmitted written packed packOne nextClock afterSamples afterFlushes
-    waitsAt sampled nextSmoothed nextVariation leastTimeout timeoutOf transmission firstDue growth longerTimeout isSkipped longerWait
+unfolding cases encode front back decode bytes_of number_at bytes_of_segments parse walk tail verdict segment_of signed is_before is_after is_due
+    opened fragment_count segment_count pieces cut cut_as filled sending place lowest_free lowest_from occurs pushed insert is_held advance
+    flushing used_window numbered_count with_numbered numbered transmitted written packed pack_one next_clock after_samples after_flushes
+    waits_at sampled next_smoothed next_variation least_timeout timeout_of transmission first_due growth longer_timeout is_skipped longer_wait
 marked = refl

@@ -6,7 +6,7 @@ use Rattle.std.proofs.lemmas.Bool.{false≢true}
 use Rattle.std.proofs.Math.Bool.{or-true}
 use Rattle.session.specs.Slots.{occurs}
 use Rattle.session.specs.Valid.{once}
-use Rattle.session.specs.Decides.{Decides, not-decides, and-decides, via}
+use Rattle.session.specs.Decides.{Decides, not_decides, and_decides, via}
 
 -- no two different places of the list have one entry
 abbrev pub Once : List ℕ → Type 0
@@ -17,9 +17,9 @@ abbrev pub Distinct : List ℕ → Type 0
 Distinct [] = Unit {0}
 Distinct (x ∷ l) = (occurs x l ≡ false) × Distinct l
 
-pub distinct-decides : (l : List ℕ) → Decides (once l) (Distinct l)
-distinct-decides [] = record { holds = λ e. tt; passes = λ x. refl }
-distinct-decides (x ∷ l) = and-decides (not-decides (occurs x l)) (distinct-decides l)
+pub distinct_decides : (l : List ℕ) → Decides (once l) (Distinct l)
+distinct_decides [] = record { holds = λ e. tt; passes = λ x. refl }
+distinct_decides (x ∷ l) = and_decides (not_decides (occurs x l)) (distinct_decides l)
 
 -- ---- where an entry stands
 
@@ -29,36 +29,36 @@ record At (n : ℕ) (l : List ℕ) : Type 0 where
   inside : place < length l
   there : get_or l place 0 ≡ n
 
-occurs-at : (n : ℕ) (l : List ℕ) → occurs n l ≡ true → At n l
+occurs_at : (n : ℕ) (l : List ℕ) → occurs n l ≡ true → At n l
 unfolding occurs
-occurs-at n [] e = absurd (false≢true e)
-occurs-at n (x ∷ l) e = go (eqb n x) refl e (occurs-at n l)
+occurs_at n [] e = absurd (false≢true e)
+occurs_at n (x ∷ l) e = go (eqb n x) refl e (occurs_at n l)
   where
     go : (b : Bool) → eqb n x ≡ b → (b || occurs n l) ≡ true → (occurs n l ≡ true → At n l) → At n (x ∷ l)
     go true p e later = record { place = 0; inside = omega arith; there = sym (eqb-true n x p) }
     go false p e later = let a = later e in record { place = suc a.place; inside = omega (arith, a.inside); there = a.there }
 
-at-occurs : (l : List ℕ) (i : ℕ) → i < length l → occurs (get_or l i 0) l ≡ true
+at_occurs : (l : List ℕ) (i : ℕ) → i < length l → occurs (get_or l i 0) l ≡ true
 unfolding occurs
-at-occurs [] i h = absurd (omega arith)
-at-occurs (x ∷ l) zero h = rw (eq-eqb x x refl)
-at-occurs (x ∷ l) (suc i) h = rw (at-occurs l i (omega arith)) (or-true (eqb (get_or l i 0) x))
+at_occurs [] i h = absurd (omega arith)
+at_occurs (x ∷ l) zero h = rw (eq-eqb x x refl)
+at_occurs (x ∷ l) (suc i) h = rw (at_occurs l i (omega arith)) (or-true (eqb (get_or l i 0) x))
 
 -- ---- the two statements are one
 
-pub distinct-once : (l : List ℕ) → Distinct l → Once l
-distinct-once [] d i j hi hj e = absurd (omega arith)
-distinct-once (x ∷ l) d zero zero hi hj e = refl
-distinct-once (x ∷ l) d (suc i) (suc j) hi hj e = ap suc (distinct-once l d.1 i j (omega arith) (omega arith) e)
-distinct-once (x ∷ l) d zero (suc j) hi hj e =
-    absurd (true≢false (sym (at-occurs l j (omega arith)) ∙ ap (λ (n : ℕ). occurs n l) (sym e) ∙ d.0))
-distinct-once (x ∷ l) d (suc i) zero hi hj e = absurd (true≢false (sym (at-occurs l i (omega arith)) ∙ ap (λ (n : ℕ). occurs n l) e ∙ d.0))
+pub distinct_once : (l : List ℕ) → Distinct l → Once l
+distinct_once [] d i j hi hj e = absurd (omega arith)
+distinct_once (x ∷ l) d zero zero hi hj e = refl
+distinct_once (x ∷ l) d (suc i) (suc j) hi hj e = ap suc (distinct_once l d.1 i j (omega arith) (omega arith) e)
+distinct_once (x ∷ l) d zero (suc j) hi hj e =
+    absurd (true≢false (sym (at_occurs l j (omega arith)) ∙ ap (λ (n : ℕ). occurs n l) (sym e) ∙ d.0))
+distinct_once (x ∷ l) d (suc i) zero hi hj e = absurd (true≢false (sym (at_occurs l i (omega arith)) ∙ ap (λ (n : ℕ). occurs n l) e ∙ d.0))
 
-pub once-distinct : (l : List ℕ) → Once l → Distinct l
-once-distinct [] o = tt
-once-distinct (x ∷ l) o = (
+pub once_distinct : (l : List ℕ) → Once l → Distinct l
+once_distinct [] o = tt
+once_distinct (x ∷ l) o = (
   apart (occurs x l) refl,
-  once-distinct l (λ i j hi hj e. rest i j (o (suc i) (suc j) (omega arith) (omega arith) e)),
+  once_distinct l (λ i j hi hj e. rest i j (o (suc i) (suc j) (omega arith) (omega arith) e)),
 )
   where
     rest : (i j : ℕ) → suc i ≡ suc j → i ≡ j
@@ -66,12 +66,12 @@ once-distinct (x ∷ l) o = (
 
     apart : (b : Bool) → occurs x l ≡ b → b ≡ false
     apart true p =
-        let a = occurs-at x l p in
+        let a = occurs_at x l p in
         let e : 0 ≡ suc a.place = o 0 (suc a.place) (omega arith) (omega (arith, a.inside)) (sym a.there) in
         absurd (omega (arith, e))
     apart false p = refl
 
 -- ---- the test decides the statement
 
-pub once-decides : (l : List ℕ) → Decides (once l) (Once l)
-once-decides l = via (distinct-decides l) (distinct-once l) (once-distinct l)
+pub once_decides : (l : List ℕ) → Decides (once l) (Once l)
+once_decides l = via (distinct_decides l) (distinct_once l) (once_distinct l)

@@ -1,7 +1,7 @@
 -- Opening a link.
 -- Assumes nothing.
 use Rattle.std.specs.Prelude.{Bool, false, cond, []}
-use Rattle.protocol.specs.Protocol.{receiveWindow, timeoutFirst}
+use Rattle.protocol.specs.Protocol.{receive_window, timeout_first}
 use Rattle.protocol.specs.Ranges.{in_range, mss}
 use Rattle.protocol.specs.declared.Settings.{Settings}
 use Rattle.protocol.specs.declared.Refusal.TheVariants.{SettingOutOfRange, ShortPart}
@@ -20,8 +20,8 @@ opened c =
         next = 0;
         queued = [];
         outstanding = [];
-        window = receiveWindow;
-        roundTrip = record { smoothed = 0; variation = 0; timeout = timeoutFirst };
+        window = receive_window;
+        round_trip = record { smoothed = 0; variation = 0; timeout = timeout_first };
       };
       receiving = record { next = 0; ready = []; waiting = []; acks = []; tell = false };
       probe = record { wait = 0; due = 0 };

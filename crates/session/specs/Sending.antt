@@ -2,13 +2,13 @@
 -- Assumes nothing.
 use Rattle.std.specs.Prelude.{Bool, cond, List, [], ◌∷◌, ◌++◌, ℕ, ◌+◌, ◌-◌, ◌*◌, min, ltb, length, take, drop}
 use Rattle.std.proofs.lemmas.List.Edits.{sets}
-use Rattle.protocol.specs.Protocol.{sendSlots, fragmentsMost}
-use Rattle.protocol.specs.Ranges.{mss, isStream}
+use Rattle.protocol.specs.Protocol.{send_slots, fragments_most}
+use Rattle.protocol.specs.Ranges.{mss, is_stream}
 use Rattle.protocol.specs.declared.Refusal.TheVariants.{LongMessage, NoFreeSlots}
 use Rattle.lists.specs.declared.Held.{Held}
-use Rattle.session.specs.Slots.{lowestFree}
-use Rattle.session.specs.State.{State, Outcome, refused, done, sendHeld, slots, withQueued}
-use Rattle.session.specs.Cutting.{segmentCount, cutAs}
+use Rattle.session.specs.Slots.{lowest_free}
+use Rattle.session.specs.State.{State, Outcome, refused, done, send_held, slots, with_queued}
+use Rattle.session.specs.Cutting.{segment_count, cut_as}
 
 -- segments placed in slots of the send pool
 pub record Placed : Type 0 where
@@ -19,7 +19,7 @@ pub record Placed : Type 0 where
 unfoldable pub place : Bool → ℕ → List ℕ → List ℕ → List (List ℕ) → Placed
 place stream m used pool [] = record { segments = []; pool = pool }
 place stream m used pool (p ∷ ps) =
-    let slot = lowestFree used sendSlots in
+    let slot = lowest_free used send_slots in
     let rest = place stream m (slot ∷ used) (sets pool (slot * m) p) ps in
     let first : Held = record { slot = slot; len = length p; fragment = cond stream 0 (length ps) } in
     record { segments = first ∷ rest.segments; pool = rest.pool }
@@ -40,16 +40,16 @@ lengthened m q x l n pool b =
     }
 
 -- a last queued segment shorter than mss takes as many as it is shorter, at most all; a full one, or none, leaves all as it was
-abbrev pub fillLast : ℕ → List Held → List Held → List ℕ → List ℕ → Filled
-fillLast m q [] pool b = record { queued = q; pool = pool; rest = b }
-fillLast m q (x ∷ l) pool b =
+abbrev pub fill_last : ℕ → List Held → List Held → List ℕ → List ℕ → Filled
+fill_last m q [] pool b = record { queued = q; pool = pool; rest = b }
+fill_last m q (x ∷ l) pool b =
     cond (ltb x.len m) (lengthened m q x l (min (length b) (m - x.len)) pool b)
     (record { queued = q; pool = pool; rest = b })
 
 -- only stream mode fills
 unfoldable pub filled : Bool → ℕ → List Held → List ℕ → List ℕ → Filled
 filled stream m q pool b =
-    cond stream (fillLast m q (drop (length q - 1) q) pool b) (record { queued = q; pool = pool; rest = b })
+    cond stream (fill_last m q (drop (length q - 1) q) pool b) (record { queued = q; pool = pool; rest = b })
 
 -- a state and its send pool
 pub record Sends : Type 0 where
@@ -60,11 +60,11 @@ pub record Sends : Type 0 where
 -- behind those that are
 unfoldable pub sending : State → List ℕ → List ℕ → Outcome Sends
 sending s pool message =
-    let stream = isStream s.settings in
+    let stream = is_stream s.settings in
     let m = mss s.settings in
-    let used = slots (sendHeld s.sending) in
+    let used = slots (send_held s.sending) in
     let f = filled stream m s.sending.queued pool message in
-    let placed = place stream m used f.pool (cutAs stream m f.rest) in
-    cond (ltb (fragmentsMost * m) (length f.rest)) (refused LongMessage)
-    (cond (ltb (sendSlots - length used) (segmentCount stream m (length f.rest))) (refused NoFreeSlots)
-    (done (record { state = withQueued s (f.queued ++ placed.segments); pool = placed.pool })))
+    let placed = place stream m used f.pool (cut_as stream m f.rest) in
+    cond (ltb (fragments_most * m) (length f.rest)) (refused LongMessage)
+    (cond (ltb (send_slots - length used) (segment_count stream m (length f.rest))) (refused NoFreeSlots)
+    (done (record { state = with_queued s (f.queued ++ placed.segments); pool = placed.pool })))

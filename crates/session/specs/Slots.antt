@@ -9,15 +9,15 @@ occurs n [] = false
 occurs n (k ∷ ks) = eqb n k || occurs n ks
 
 -- the lowest of n, n + 1, .. that is not in the list, n + k at most
-unfoldable pub lowestFrom : List ℕ → ℕ → ℕ → ℕ
-lowestFrom used n zero = n
-lowestFrom used n (suc k) = cond (occurs n used) (lowestFrom used (suc n) k) n
+unfoldable pub lowest_from : List ℕ → ℕ → ℕ → ℕ
+lowest_from used n zero = n
+lowest_from used n (suc k) = cond (occurs n used) (lowest_from used (suc n) k) n
 
 -- the lowest slot below n that is not used, n where all are
-unfoldable pub lowestFree : List ℕ → ℕ → ℕ
-lowestFree used n = lowestFrom used 0 n
+unfoldable pub lowest_free : List ℕ → ℕ → ℕ
+lowest_free used n = lowest_from used 0 n
 
 -- how many of the slots 0 to n - 1 are in the list
-unfoldable pub usedBelow : ℕ → List ℕ → ℕ
-usedBelow zero l = 0
-usedBelow (suc n) l = cond (occurs n l) (suc (usedBelow n l)) (usedBelow n l)
+unfoldable pub used_below : ℕ → List ℕ → ℕ
+used_below zero l = 0
+used_below (suc n) l = cond (occurs n l) (suc (used_below n l)) (used_below n l)

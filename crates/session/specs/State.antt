@@ -28,7 +28,7 @@ pub record Sending : Type 0 where
   pub outstanding : List Sent
   -- the peer's last window
   pub window : ℕ
-  pub roundTrip : RoundTrip
+  pub round_trip : RoundTrip
 
 -- the receiving half
 pub record Receiving : Type 0 where
@@ -62,39 +62,39 @@ pub record State : Type 0 where
 -- ---- one part replaced, all others as they were. No other file builds one of these records from another one
 
 -- the queued segments
-abbrev pub withQueue : Sending → List Held → Sending
-withQueue s q =
-    record { una = s.una; next = s.next; queued = q; outstanding = s.outstanding; window = s.window; roundTrip = s.roundTrip }
+abbrev pub with_queue : Sending → List Held → Sending
+with_queue s q =
+    record { una = s.una; next = s.next; queued = q; outstanding = s.outstanding; window = s.window; round_trip = s.round_trip }
 
 -- snd_una and the outstanding segments
-abbrev pub withOutstanding : Sending → ℕ → List Sent → Sending
-withOutstanding s una l =
-    record { una = una; next = s.next; queued = s.queued; outstanding = l; window = s.window; roundTrip = s.roundTrip }
+abbrev pub with_outstanding : Sending → ℕ → List Sent → Sending
+with_outstanding s una l =
+    record { una = una; next = s.next; queued = s.queued; outstanding = l; window = s.window; round_trip = s.round_trip }
 
 -- snd_nxt, the queued and the outstanding segments
-abbrev pub withNumbers : Sending → ℕ → List Held → List Sent → Sending
-withNumbers s next q l =
-    record { una = s.una; next = next; queued = q; outstanding = l; window = s.window; roundTrip = s.roundTrip }
+abbrev pub with_numbers : Sending → ℕ → List Held → List Sent → Sending
+with_numbers s next q l =
+    record { una = s.una; next = next; queued = q; outstanding = l; window = s.window; round_trip = s.round_trip }
 
 -- the peer's last window
-abbrev pub withWindow : ℕ → Sending → Sending
-withWindow w s =
-    record { una = s.una; next = s.next; queued = s.queued; outstanding = s.outstanding; window = w; roundTrip = s.roundTrip }
+abbrev pub with_window : ℕ → Sending → Sending
+with_window w s =
+    record { una = s.una; next = s.next; queued = s.queued; outstanding = s.outstanding; window = w; round_trip = s.round_trip }
 
-abbrev pub withRoundTrip : Sending → RoundTrip → Sending
-withRoundTrip s x =
-    record { una = s.una; next = s.next; queued = s.queued; outstanding = s.outstanding; window = s.window; roundTrip = x }
+abbrev pub with_round_trip : Sending → RoundTrip → Sending
+with_round_trip s x =
+    record { una = s.una; next = s.next; queued = s.queued; outstanding = s.outstanding; window = s.window; round_trip = x }
 
 -- rcv_nxt and the two lists
-abbrev pub withLists : Receiving → ℕ → List Held → List Waiting → Receiving
-withLists r next ready waiting = record { next = next; ready = ready; waiting = waiting; acks = r.acks; tell = r.tell }
+abbrev pub with_lists : Receiving → ℕ → List Held → List Waiting → Receiving
+with_lists r next ready waiting = record { next = next; ready = ready; waiting = waiting; acks = r.acks; tell = r.tell }
 
 -- the acks noted, and whether a tell is wanted
-abbrev pub withNotes : Receiving → List Ack → Bool → Receiving
-withNotes r acks tell = record { next = r.next; ready = r.ready; waiting = r.waiting; acks = acks; tell = tell }
+abbrev pub with_notes : Receiving → List Ack → Bool → Receiving
+with_notes r acks tell = record { next = r.next; ready = r.ready; waiting = r.waiting; acks = acks; tell = tell }
 
-abbrev pub withHalves : State → Sending → Receiving → State
-withHalves s d r =
+abbrev pub with_halves : State → Sending → Receiving → State
+with_halves s d r =
     record {
       settings = s.settings;
       sending = d;
@@ -107,18 +107,18 @@ withHalves s d r =
       dead = s.dead;
     }
 
-abbrev pub withSending : State → Sending → State
-withSending s d = withHalves s d s.receiving
+abbrev pub with_sending : State → Sending → State
+with_sending s d = with_halves s d s.receiving
 
-abbrev pub withReceiving : State → Receiving → State
-withReceiving s r = withHalves s s.sending r
+abbrev pub with_receiving : State → Receiving → State
+with_receiving s r = with_halves s s.sending r
 
-abbrev pub withQueued : State → List Held → State
-withQueued s q = withSending s (withQueue s.sending q)
+abbrev pub with_queued : State → List Held → State
+with_queued s q = with_sending s (with_queue s.sending q)
 
 -- the current time and the schedule
-abbrev pub withTimes : State → ℕ → Schedule → State
-withTimes s t x =
+abbrev pub with_times : State → ℕ → Schedule → State
+with_times s t x =
     record {
       settings = s.settings;
       sending = s.sending;
@@ -131,8 +131,8 @@ withTimes s t x =
       dead = s.dead;
     }
 
-abbrev pub withCongestion : State → Congestion → State
-withCongestion s x =
+abbrev pub with_congestion : State → Congestion → State
+with_congestion s x =
     record {
       settings = s.settings;
       sending = s.sending;
@@ -145,12 +145,12 @@ withCongestion s x =
       dead = s.dead;
     }
 
-abbrev pub withSchedule : State → Schedule → State
-withSchedule s x = withTimes s s.current x
+abbrev pub with_schedule : State → Schedule → State
+with_schedule s x = with_times s s.current x
 
 -- after a flush: the halves, the probe clock, the time, the congestion window, no ask, and whether the link is dead
-abbrev pub afterFlushing : State → Sending → Receiving → ProbeClock → ℕ → Congestion → Bool → State
-afterFlushing s d r probe t x dead =
+abbrev pub after_flushing : State → Sending → Receiving → ProbeClock → ℕ → Congestion → Bool → State
+after_flushing s d r probe t x dead =
     record {
       settings = s.settings;
       sending = d;
@@ -174,11 +174,11 @@ abbrev pub admitted : {A : Type 0} → (Refusal → A) → Bool → Bool → A �
 admitted refusal long made own = cond long (cond made own (refusal InvalidBlock)) (refusal ShortPart)
 
 -- the segments of the two pools
-abbrev pub sendHeld : Sending → List Held
-sendHeld s = map (λ (x : Sent). x.held) s.outstanding ++ s.queued
+abbrev pub send_held : Sending → List Held
+send_held s = map (λ (x : Sent). x.held) s.outstanding ++ s.queued
 
-abbrev pub receiveHeld : Receiving → List Held
-receiveHeld r = r.ready ++ map (λ (w : Waiting). w.held) r.waiting
+abbrev pub receive_held : Receiving → List Held
+receive_held r = r.ready ++ map (λ (w : Waiting). w.held) r.waiting
 
 abbrev pub slots : List Held → List ℕ
 slots l = map (λ (h : Held). h.slot) l

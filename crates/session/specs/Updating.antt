@@ -4,7 +4,7 @@ use Rattle.std.specs.Prelude.{cond, List, map, ℕ}
 use Rattle.lists.specs.declared.Sent.{Sent}
 use Rattle.schedule.specs.Schedules.{updated, named}
 use Rattle.schedule.specs.declared.Updated.{Updated}
-use Rattle.session.specs.State.{State, withTimes, withSchedule}
+use Rattle.session.specs.State.{State, with_times, with_schedule}
 use Rattle.session.specs.Flushing.{Flushed, flushing}
 
 -- what an update gives: it waits, and the state has a new current time, or it flushes
@@ -16,7 +16,7 @@ pub data Updates : Type 0 where
 unfoldable pub updating : State → ℕ → List ℕ → Updates
 updating s now pool =
     let u = updated s.schedule now s.settings.interval in
-    cond u.flushes (flushes (flushing (withSchedule s u.schedule) now pool)) (waits (withTimes s now u.schedule))
+    cond u.flushes (flushes (flushing (with_schedule s u.schedule) now pool)) (waits (with_times s now u.schedule))
 
 -- when the outstanding segments are due
 abbrev pub dues : State → List ℕ

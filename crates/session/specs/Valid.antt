@@ -2,33 +2,33 @@
 -- Assumes nothing.
 use Rattle.std.specs.Prelude.{Bool, true, false, not, ◌&&◌, ◌||◌, List, [], ◌∷◌, ◌++◌, map, ℕ, suc, ◌^◌, leb, ltb, eqb, length}
 use Rattle.protocol.specs.Protocol.{
-  fragmentMost,
-  sendSlots,
-  receiveSlots,
-  sendWindow,
-  receiveWindow,
-  acksMost,
-  deadAfter,
-  skipsMost,
-  timeoutMost,
-  probeWaitLeast,
-  probeWaitMost,
+  fragment_most,
+  send_slots,
+  receive_slots,
+  send_window,
+  receive_window,
+  acks_most,
+  dead_after,
+  skips_most,
+  timeout_most,
+  probe_wait_least,
+  probe_wait_most,
 }
 use Rattle.protocol.specs.Ranges.{in_range, mss}
 use Rattle.protocol.specs.Serial.{minus}
 use Rattle.protocol.specs.declared.Settings.{Settings}
 use Rattle.congestion.specs.Congestions.{fits}
-use Rattle.timing.specs.RoundTrips.{leastTimeout}
+use Rattle.timing.specs.RoundTrips.{least_timeout}
 use Rattle.timing.specs.declared.RoundTrip.{RoundTrip}
 use Rattle.timing.specs.declared.ProbeClock.{ProbeClock}
 use Rattle.lists.specs.declared.Held.{Held}
 use Rattle.lists.specs.declared.Waiting.{Waiting}
 use Rattle.lists.specs.declared.Sent.{Sent}
-use Rattle.lists.specs.Orders.{ascending, sentOffset, waitingOffset}
-use Rattle.lists.specs.Receiving.{startsAt}
-use Rattle.lists.specs.Acknowledging.{firstNumberOr}
+use Rattle.lists.specs.Orders.{ascending, sent_offset, waiting_offset}
+use Rattle.lists.specs.Receiving.{starts_at}
+use Rattle.lists.specs.Acknowledging.{first_number_or}
 use Rattle.session.specs.Slots.{occurs}
-use Rattle.session.specs.State.{Sending, Receiving, State, sendHeld, receiveHeld, slots}
+use Rattle.session.specs.State.{Sending, Receiving, State, send_held, receive_held, slots}
 
 -- ---- tests on lists
 
@@ -45,68 +45,68 @@ once (x ∷ l) = not (occurs x l) && once l
 -- ---- the conditions
 
 -- held lengths at most mss, held fragments at most 126
-abbrev pub heldFits : ℕ → Held → Bool
-heldFits m h = leb h.len m && leb h.fragment fragmentMost
+abbrev pub held_fits : ℕ → Held → Bool
+held_fits m h = leb h.len m && leb h.fragment fragment_most
 
 -- held slots below n, none held twice
-abbrev pub slotsFit : ℕ → List Held → Bool
-slotsFit n l = all (λ (h : Held). ltb h.slot n) l && once (slots l)
+abbrev pub slots_fit : ℕ → List Held → Bool
+slots_fit n l = all (λ (h : Held). ltb h.slot n) l && once (slots l)
 
 -- outstanding numbers ascending from snd_una up to but not including snd_nxt, these two at most 32 apart, the first being snd_una (none:
 -- the two are equal)
-unfoldable pub numbersFit : Sending → Bool
-numbersFit s =
-    ascending (sentOffset s.una) 0 (minus s.next s.una) s.outstanding
-    && leb (minus s.next s.una) sendWindow
-    && eqb (firstNumberOr s.outstanding s.next) s.una
+unfoldable pub numbers_fit : Sending → Bool
+numbers_fit s =
+    ascending (sent_offset s.una) 0 (minus s.next s.una) s.outstanding
+    && leb (minus s.next s.una) send_window
+    && eqb (first_number_or s.outstanding s.next) s.una
 
 -- waiting numbers ascending from rcv_nxt to rcv_nxt + 127
-unfoldable pub waitingFits : Receiving → Bool
-waitingFits r = ascending (waitingOffset r.next) 0 receiveWindow r.waiting
+unfoldable pub waiting_fits : Receiving → Bool
+waiting_fits r = ascending (waiting_offset r.next) 0 receive_window r.waiting
 
 -- not starting at rcv_nxt while fewer than 128 are ready
 unfoldable pub settled : Receiving → Bool
-settled r = not (startsAt r.next r.waiting && ltb (length r.ready) receiveWindow)
+settled r = not (starts_at r.next r.waiting && ltb (length r.ready) receive_window)
 
 -- a timeout from the mode's least to 60,000
-abbrev pub timeoutFits : ℕ → ℕ → Bool
-timeoutFits mode x = leb (leastTimeout mode) x && leb x timeoutMost
+abbrev pub timeout_fits : ℕ → ℕ → Bool
+timeout_fits mode x = leb (least_timeout mode) x && leb x timeout_most
 
 -- outstanding transmissions at most 20, skip counts at most 255, and the timeout
-abbrev pub sentFits : ℕ → Sent → Bool
-sentFits mode x = leb x.transmissions deadAfter && leb x.record.skips skipsMost && timeoutFits mode x.record.timeout
+abbrev pub sent_fits : ℕ → Sent → Bool
+sent_fits mode x = leb x.transmissions dead_after && leb x.record.skips skips_most && timeout_fits mode x.record.timeout
 
 -- smoothed time and variation 0 to 2^31 - 1
-abbrev pub roundTripFits : ℕ → RoundTrip → Bool
-roundTripFits mode x = ltb x.smoothed (2 ^ 31) && ltb x.variation (2 ^ 31) && timeoutFits mode x.timeout
+abbrev pub round_trip_fits : ℕ → RoundTrip → Bool
+round_trip_fits mode x = ltb x.smoothed (2 ^ 31) && ltb x.variation (2 ^ 31) && timeout_fits mode x.timeout
 
 -- probe wait 0 or 7,000 to 120,000
-abbrev pub probeFits : ProbeClock → Bool
-probeFits p = eqb p.wait 0 || leb probeWaitLeast p.wait && leb p.wait probeWaitMost
+abbrev pub probe_fits : ProbeClock → Bool
+probe_fits p = eqb p.wait 0 || leb probe_wait_least p.wait && leb p.wait probe_wait_most
 
 -- ---- the halves, and the whole
 
-unfoldable pub sendingValid : Settings → Sending → Bool
-sendingValid c s =
-    all (heldFits (mss c)) (sendHeld s)
-    && slotsFit sendSlots (sendHeld s)
-    && numbersFit s
-    && all (sentFits c.mode) s.outstanding
-    && roundTripFits c.mode s.roundTrip
+unfoldable pub sending_valid : Settings → Sending → Bool
+sending_valid c s =
+    all (held_fits (mss c)) (send_held s)
+    && slots_fit send_slots (send_held s)
+    && numbers_fit s
+    && all (sent_fits c.mode) s.outstanding
+    && round_trip_fits c.mode s.round_trip
 
-unfoldable pub receivingValid : Settings → Receiving → Bool
-receivingValid c r =
-    all (heldFits (mss c)) (receiveHeld r)
-    && slotsFit receiveSlots (receiveHeld r)
-    && leb (length r.ready) receiveWindow
-    && waitingFits r
+unfoldable pub receiving_valid : Settings → Receiving → Bool
+receiving_valid c r =
+    all (held_fits (mss c)) (receive_held r)
+    && slots_fit receive_slots (receive_held r)
+    && leb (length r.ready) receive_window
+    && waiting_fits r
     && settled r
-    && leb (length r.acks) acksMost
+    && leb (length r.acks) acks_most
 
 unfoldable pub valid : State → Bool
 valid s =
     in_range s.settings
-    && sendingValid s.settings s.sending
-    && receivingValid s.settings s.receiving
-    && probeFits s.probe
+    && sending_valid s.settings s.sending
+    && receiving_valid s.settings s.receiving
+    && probe_fits s.probe
     && fits s.congestion (mss s.settings)

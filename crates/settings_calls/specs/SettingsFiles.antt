@@ -2,7 +2,7 @@
 -- Assumes nothing.
 use Rattle.std.specs.Prelude.{◌≡◌, ℕ, ℤ, pos}
 use Rattle.protocol.specs.declared.Settings.{Settings}
-use Rattle.codes.specs.Codes.{numberCode, sizeCode}
+use Rattle.codes.specs.Codes.{number_code, size_code}
 use Rattle.settings_file.specs.Files.{number_of}
 use Rattle.settings_file.specs.declared.Reading.{Reading}
 use Rattle.settings_file.specs.declared.Reading.TheVariants as reading
@@ -10,9 +10,9 @@ use Rattle.settings_file.specs.declared.Writing.{Writing}
 use Rattle.settings_file.specs.declared.Writing.TheVariants as writing
 
 -- the count of the file's bytes where it was written
-abbrev pub writingCode : Writing → ℤ
-writingCode (writing.Wrote n) = sizeCode n
-writingCode (writing.Refused r) = numberCode (number_of r)
+abbrev pub writing_code : Writing → ℤ
+writing_code (writing.Wrote n) = size_code n
+writing_code (writing.Refused r) = number_code (number_of r)
 
 -- seven settings as numbers of one width
 pub record Numbers : Type 0 where
@@ -37,10 +37,10 @@ numbers conv mtu mode interval threshold stream congestion =
     }
 
 -- those of a link's settings
-abbrev pub numbersOf : Settings → Numbers
-numbersOf c = numbers c.conv c.mtu c.mode c.interval c.threshold c.stream c.congestion
+abbrev pub numbers_of : Settings → Numbers
+numbers_of c = numbers c.conv c.mtu c.mode c.interval c.threshold c.stream c.congestion
 
 -- a file that is read is told by 0, and its settings are stored; a refused one changes nothing
 abbrev pub Stores : Reading → ℤ → Numbers → Numbers → Type 0
-Stores (reading.Settings c) r before after = (r ≡ pos 0) × (after ≡ numbersOf c)
-Stores (reading.Refused q) r before after = (r ≡ numberCode (number_of q)) × (after ≡ before)
+Stores (reading.Settings c) r before after = (r ≡ pos 0) × (after ≡ numbers_of c)
+Stores (reading.Refused q) r before after = (r ≡ number_code (number_of q)) × (after ≡ before)

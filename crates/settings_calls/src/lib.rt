@@ -1,15 +1,15 @@
 // Settings files for C: a number below zero is a refusal's.
 ghost use Rattle.std.specs.Prelude.{◌≡◌};
-ghost use Rattle.codes.specs.Codes.{settingsOf};
-ghost use Rattle.settings_file.specs.Files.{Writes, readFrom};
+ghost use Rattle.codes.specs.Codes.{settings_of};
+ghost use Rattle.settings_file.specs.Files.{Writes, read_from};
 ghost use Rattle.codes.specs.Gives.{Gives};
-ghost use Rattle.settings_calls.specs.SettingsFiles.{writingCode, numbers, Stores};
+ghost use Rattle.settings_calls.specs.SettingsFiles.{writing_code, numbers, Stores};
 
 use settings_file::{Reading, Writing};
 
 // The count of a file's bytes, or the refusal.
 fn writing_code(writing: Writing) -> i32
-    ensures { result ≡ writingCode writing }
+    ensures { result ≡ writing_code writing }
 {
     match writing {
         Writing::Wrote(n) => codes::size_code(n),
@@ -28,8 +28,8 @@ pub fn write(
     congestion: u32,
     file: &mut [u8],
 ) -> i32
-    ensures { Gives writingCode
-        (λ a. Writes (settingsOf conv mtu mode interval threshold stream congestion) file.old a file.new) result }
+    ensures { Gives writing_code
+        (λ a. Writes (settings_of conv mtu mode interval threshold stream congestion) file.old a file.new) result }
 {
     let settings = codes::settings(conv, mtu, mode, interval, threshold, stream, congestion);
     let writing = settings_file::write(settings, file);
@@ -47,7 +47,7 @@ pub fn read(
     stream: &mut u32,
     congestion: &mut u32,
 ) -> i32
-    ensures { Stores (readFrom file.now) result
+    ensures { Stores (read_from file.now) result
         (numbers conv.old mtu.old mode.old interval.old threshold.old
         stream.old congestion.old)
         (numbers conv.new mtu.new mode.new interval.new threshold.new

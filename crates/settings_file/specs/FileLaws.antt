@@ -16,27 +16,27 @@ use Rattle.std.proofs.lemmas.List.Edits.{sets, sets-eq}
 use Rattle.protocol.specs.Ranges.{in_range}
 use Rattle.protocol.specs.declared.Settings.{Settings}
 use Rattle.wire.specs.LittleEndian.{bytes_of, number_at, AllBytes}
-use Rattle.wire.specs.LittleEndianLaws.{number-of-bytes, bytes-of-number, length-bytesOf}
-use Rattle.wire.specs.Stores.{sets-append}
+use Rattle.wire.specs.LittleEndianLaws.{number_of_bytes, bytes_of_number, length_bytes_of}
+use Rattle.wire.specs.Stores.{sets_append}
 use Rattle.settings_file.specs.Files.{
-  fitsFirst,
+  fits_first,
   magic,
   front,
   back,
   added,
   first_of,
   second_of,
-  fileOf,
-  writeInto,
+  file_of,
+  write_into,
   Writes,
-  sameFirst,
-  hasMagic,
-  settingsAt,
-  firstRanged,
-  secondRanged,
+  same_first,
+  has_magic,
+  settings_at,
+  first_ranged,
+  second_ranged,
   read_first,
-  readSecond,
-  readFrom,
+  read_second,
+  read_from,
 }
 use Rattle.settings_file.specs.declared.FileRefusal.{FileRefusal}
 use Rattle.settings_file.specs.declared.FileRefusal.TheVariants.{
@@ -60,46 +60,46 @@ pub record SettingsFit (c : Settings) : Type 0 where
   pub stream : c.stream < 2 ^ 8
   pub congestion : c.congestion < 2 ^ 8
 
-length-first : (c : Settings) → length (first_of c) ≡ 15
+length_first : (c : Settings) → length (first_of c) ≡ 15
 unfolding first_of front back bytes_of
-length-first c = refl
+length_first c = refl
 
-length-second : (c : Settings) → length (second_of c) ≡ 17
+length_second : (c : Settings) → length (second_of c) ≡ 17
 unfolding second_of front back added bytes_of
-length-second c = refl
+length_second c = refl
 
 -- the settings of a file's bytes are those that it was written from
-settings-of-first : (c : Settings) → SettingsFit c → c.stream ≡ 0 → c.congestion ≡ 0 → settingsAt (first_of c) 0 0 ≡ c
-unfolding settingsAt first_of front back bytes_of number_at
-settings-of-first c r stream congestion = λ i. record {
-  conv = number-of-bytes 4 c.conv r.conv i;
-  mtu = number-of-bytes 2 c.mtu r.mtu i;
-  mode = number-of-bytes 1 c.mode r.mode i;
-  interval = number-of-bytes 2 c.interval r.interval i;
-  threshold = number-of-bytes 1 c.threshold r.threshold i;
+settings_of_first : (c : Settings) → SettingsFit c → c.stream ≡ 0 → c.congestion ≡ 0 → settings_at (first_of c) 0 0 ≡ c
+unfolding settings_at first_of front back bytes_of number_at
+settings_of_first c r stream congestion = λ i. record {
+  conv = number_of_bytes 4 c.conv r.conv i;
+  mtu = number_of_bytes 2 c.mtu r.mtu i;
+  mode = number_of_bytes 1 c.mode r.mode i;
+  interval = number_of_bytes 2 c.interval r.interval i;
+  threshold = number_of_bytes 1 c.threshold r.threshold i;
   stream = sym stream i;
   congestion = sym congestion i;
 }
 
-settings-of-second : (c : Settings) → SettingsFit c → settingsAt (second_of c) (number_at 1 (second_of c) 15) (number_at 1 (second_of c) 16) ≡ c
-unfolding settingsAt second_of front back added bytes_of number_at
-settings-of-second c r = λ i. record {
-  conv = number-of-bytes 4 c.conv r.conv i;
-  mtu = number-of-bytes 2 c.mtu r.mtu i;
-  mode = number-of-bytes 1 c.mode r.mode i;
-  interval = number-of-bytes 2 c.interval r.interval i;
-  threshold = number-of-bytes 1 c.threshold r.threshold i;
-  stream = number-of-bytes 1 c.stream r.stream i;
-  congestion = number-of-bytes 1 c.congestion r.congestion i;
+settings_of_second : (c : Settings) → SettingsFit c → settings_at (second_of c) (number_at 1 (second_of c) 15) (number_at 1 (second_of c) 16) ≡ c
+unfolding settings_at second_of front back added bytes_of number_at
+settings_of_second c r = λ i. record {
+  conv = number_of_bytes 4 c.conv r.conv i;
+  mtu = number_of_bytes 2 c.mtu r.mtu i;
+  mode = number_of_bytes 1 c.mode r.mode i;
+  interval = number_of_bytes 2 c.interval r.interval i;
+  threshold = number_of_bytes 1 c.threshold r.threshold i;
+  stream = number_of_bytes 1 c.stream r.stream i;
+  congestion = number_of_bytes 1 c.congestion r.congestion i;
 }
 
 -- ---- stored one behind the other
 
-pub front-stored : (v : ℕ) (l : List ℕ) {x y : List ℕ} → x ≡ sets l 0 magic → y ≡ sets x 3 (bytes_of 2 v) → y ≡ sets l 0 (front v)
+pub front_stored : (v : ℕ) (l : List ℕ) {x y : List ℕ} → x ≡ sets l 0 magic → y ≡ sets x 3 (bytes_of 2 v) → y ≡ sets l 0 (front v)
 unfolding front
-front-stored v l p q = simp sets-append (cc)
+front_stored v l p q = simp sets_append (cc)
 
-pub back-stored :
+pub back_stored :
     (c : Settings) (l : List ℕ) {x y z w v : List ℕ} →
     x ≡ sets l 5 (bytes_of 4 c.conv) →
     y ≡ sets x 9 (bytes_of 2 c.mtu) →
@@ -108,12 +108,12 @@ pub back-stored :
     v ≡ sets w 14 (bytes_of 1 c.threshold) →
     v ≡ sets l 5 (back c)
 unfolding back
-back-stored c l p q r s t = simp (sets-append, length-append, length-bytesOf) (cc)
+back_stored c l p q r s t = simp (sets_append, length-append, length_bytes_of) (cc)
 
-pub added-stored : (c : Settings) (l : List ℕ) {x y : List ℕ} →
+pub added_stored : (c : Settings) (l : List ℕ) {x y : List ℕ} →
     x ≡ sets l 15 (bytes_of 1 c.stream) → y ≡ sets x 16 (bytes_of 1 c.congestion) → y ≡ sets l 15 (added c)
 unfolding added
-added-stored c l p q = simp (sets-append, length-bytesOf) (cc)
+added_stored c l p q = simp (sets_append, length_bytes_of) (cc)
 
 length_front : (v : ℕ) → length (front v) ≡ 5
 unfolding front bytes_of
@@ -125,15 +125,15 @@ length_back c = refl
 
 module _ (c : Settings) (l : List ℕ) where
   -- what is put for settings that fit version 1, and for others
-  pub first-put : {x y : List ℕ} → fitsFirst c ≡ true → x ≡ sets l 0 (front 1) → y ≡ sets x 5 (back c)
-      → (15 ≡ length (fileOf c)) × (y ≡ sets l 0 (fileOf c))
+  pub first_put : {x y : List ℕ} → fits_first c ≡ true → x ≡ sets l 0 (front 1) → y ≡ sets x 5 (back c)
+      → (15 ≡ length (file_of c)) × (y ≡ sets l 0 (file_of c))
   unfolding first_of
-  first-put e p q = rw e (sym (length-first c), (rw (sets-append, length_front) (cc)))
+  first_put e p q = rw e (sym (length_first c), (rw (sets_append, length_front) (cc)))
 
-  pub second-put : {x y z : List ℕ} → fitsFirst c ≡ false → x ≡ sets l 0 (front 2) → y ≡ sets x 5 (back c) → z ≡ sets y 15 (added c)
-      → (17 ≡ length (fileOf c)) × (z ≡ sets l 0 (fileOf c))
+  pub second_put : {x y z : List ℕ} → fits_first c ≡ false → x ≡ sets l 0 (front 2) → y ≡ sets x 5 (back c) → z ≡ sets y 15 (added c)
+      → (17 ≡ length (file_of c)) × (z ≡ sets l 0 (file_of c))
   unfolding second_of
-  second-put e p q r = rw e (sym (length-second c), (simp (sets-append, length-append, length_front, length_back) (cc)))
+  second_put e p q r = rw e (sym (length_second c), (simp (sets_append, length-append, length_front, length_back) (cc)))
 
 -- ---- the magic
 
@@ -147,26 +147,26 @@ and-false false = refl
 
 module _ (a b : List ℕ) where
   -- one byte more
-  pub same_more : (n : ℕ) → sameFirst n a b ≡ true → get_or a n 0 ≡ get_or b n 0 → sameFirst (n + 1) a b ≡ true
-  unfolding sameFirst
+  pub same_more : (n : ℕ) → same_first n a b ≡ true → get_or a n 0 ≡ get_or b n 0 → same_first (n + 1) a b ≡ true
+  unfolding same_first
   same_more n h e = rw (add-one n, h, eq-eqb (get_or a n 0) (get_or b n 0) e)
 
   -- a byte that differs
-  pub not_same : (n i : ℕ) → i < n → (get_or a i 0 ≡ get_or b i 0 → ⊥) → sameFirst n a b ≡ false
-  unfolding sameFirst
+  pub not_same : (n i : ℕ) → i < n → (get_or a i 0 ≡ get_or b i 0 → ⊥) → same_first n a b ≡ false
+  unfolding same_first
   not_same zero i h d = absurd (omega arith)
   not_same (suc n) i h d = go (dec_lt i n) (λ p. not_same n i p d)
     where
-      go : Dec (i < n) → (i < n → sameFirst n a b ≡ false) → (sameFirst n a b && eqb (get_or a n 0) (get_or b n 0)) ≡ false
+      go : Dec (i < n) → (i < n → same_first n a b ≡ false) → (same_first n a b && eqb (get_or a n 0) (get_or b n 0)) ≡ false
       go (yes p) before = rw (before p)
-      go (no p) before = let e : n ≡ i = omega arith in rw (e, ne_eqb (get_or a i 0) (get_or b i 0) d) (and-false (sameFirst i a b))
+      go (no p) before = let e : n ≡ i = omega arith in rw (e, ne_eqb (get_or a i 0) (get_or b i 0) d) (and-false (same_first i a b))
 
-first-same : (n : ℕ) (a b : List ℕ) → n ≤ length a → n ≤ length b → sameFirst n a b ≡ true → take n a ≡ take n b
-unfolding sameFirst
-first-same zero a b p q e = refl
-first-same (suc n) a b p q e =
-    let h = and_parts (sameFirst n a b) (eqb (get_or a n 0) (get_or b n 0)) e in
-    rw (take-suc a n 0, take-suc b n 0, first-same n a b (omega arith) (omega arith) h.0, eqb-true (get_or a n 0) (get_or b n 0) h.1)
+first_same : (n : ℕ) (a b : List ℕ) → n ≤ length a → n ≤ length b → same_first n a b ≡ true → take n a ≡ take n b
+unfolding same_first
+first_same zero a b p q e = refl
+first_same (suc n) a b p q e =
+    let h = and_parts (same_first n a b) (eqb (get_or a n 0) (get_or b n 0)) e in
+    rw (take-suc a n 0, take-suc b n 0, first_same n a b (omega arith) (omega arith) h.0, eqb-true (get_or a n 0) (get_or b n 0) h.1)
 
 -- ---- the tests, in turn
 
@@ -174,77 +174,77 @@ ruleset tests = (eq-eqb, ne_eqb, le-leb, lt-leb)
 
 module _ (c : Settings) (l : List ℕ) where
   pub no_room : length l < 17 → Writes c l (writing.Refused ShortPart) l
-  unfolding writeInto
+  unfolding write_into
   no_room a = record { answer = rw (lt-leb 17 (length l) a); leaves = refl }
 
   pub out_of_range : 17 ≤ length l → in_range c ≡ false → Writes c l (writing.Refused SettingOutOfRange) l
-  unfolding writeInto
+  unfolding write_into
   out_of_range a b = record { answer = rw (le-leb 17 (length l) a, b); leaves = refl }
 
-  pub written : {n : ℕ} {m : List ℕ} → 17 ≤ length l → in_range c ≡ true → n ≡ length (fileOf c) → m ≡ sets l 0 (fileOf c)
+  pub written : {n : ℕ} {m : List ℕ} → 17 ≤ length l → in_range c ≡ true → n ≡ length (file_of c) → m ≡ sets l 0 (file_of c)
       → Writes c l (writing.Wrote n) m
-  unfolding writeInto
+  unfolding write_into
   written a b p e = record { answer = ap writing.Wrote p ∙ rw (le-leb 17 (length l) a, b); leaves = e }
 
 module _ (f : List ℕ) where
-  pub short-file : length f < 5 → reading.Refused NotSettings ≡ readFrom f
-  unfolding readFrom
-  short-file a = rw (lt-leb 5 (length f) a)
+  pub short_file : length f < 5 → reading.Refused NotSettings ≡ read_from f
+  unfolding read_from
+  short_file a = rw (lt-leb 5 (length f) a)
 
-  pub no-magic : 5 ≤ length f → hasMagic f ≡ false → reading.Refused NotSettings ≡ readFrom f
-  unfolding readFrom
-  no-magic a b = rw (le-leb 5 (length f) a, b)
+  pub no_magic : 5 ≤ length f → has_magic f ≡ false → reading.Refused NotSettings ≡ read_from f
+  unfolding read_from
+  no_magic a b = rw (le-leb 5 (length f) a, b)
 
-  pub other-version : 5 ≤ length f → hasMagic f ≡ true → (number_at 2 f 3 ≡ 1 → ⊥) → (number_at 2 f 3 ≡ 2 → ⊥)
-      → reading.Refused UnknownVersion ≡ readFrom f
-  unfolding readFrom
-  other-version a b d e = rw (le-leb 5 (length f) a, b, ne_eqb (number_at 2 f 3) 1 d, ne_eqb (number_at 2 f 3) 2 e)
+  pub other_version : 5 ≤ length f → has_magic f ≡ true → (number_at 2 f 3 ≡ 1 → ⊥) → (number_at 2 f 3 ≡ 2 → ⊥)
+      → reading.Refused UnknownVersion ≡ read_from f
+  unfolding read_from
+  other_version a b d e = rw (le-leb 5 (length f) a, b, ne_eqb (number_at 2 f 3) 1 d, ne_eqb (number_at 2 f 3) 2 e)
 
-  pub of-first : 5 ≤ length f → hasMagic f ≡ true → number_at 2 f 3 ≡ 1 → read_first f ≡ readFrom f
-  unfolding readFrom
-  of-first a b d = rw (le-leb 5 (length f) a, b, d)
+  pub of_first : 5 ≤ length f → has_magic f ≡ true → number_at 2 f 3 ≡ 1 → read_first f ≡ read_from f
+  unfolding read_from
+  of_first a b d = rw (le-leb 5 (length f) a, b, d)
 
-  pub of-second : 5 ≤ length f → hasMagic f ≡ true → number_at 2 f 3 ≡ 2 → readSecond f ≡ readFrom f
-  unfolding readFrom
-  of-second a b d = rw (le-leb 5 (length f) a, b, d)
+  pub of_second : 5 ≤ length f → has_magic f ≡ true → number_at 2 f 3 ≡ 2 → read_second f ≡ read_from f
+  unfolding read_from
+  of_second a b d = rw (le-leb 5 (length f) a, b, d)
 
 -- ---- the round trips
 
-first-magic : (c : Settings) → hasMagic (first_of c) ≡ true
-unfolding hasMagic sameFirst first_of front bytes_of
-first-magic c = refl
+first_magic : (c : Settings) → has_magic (first_of c) ≡ true
+unfolding has_magic same_first first_of front bytes_of
+first_magic c = refl
 
-first-version : (c : Settings) → number_at 2 (first_of c) 3 ≡ 1
+first_version : (c : Settings) → number_at 2 (first_of c) 3 ≡ 1
 unfolding first_of front bytes_of number_at
-first-version c = refl
+first_version c = refl
 
-second-magic : (c : Settings) → hasMagic (second_of c) ≡ true
-unfolding hasMagic sameFirst second_of front bytes_of
-second-magic c = refl
+second_magic : (c : Settings) → has_magic (second_of c) ≡ true
+unfolding has_magic same_first second_of front bytes_of
+second_magic c = refl
 
-second-version : (c : Settings) → number_at 2 (second_of c) 3 ≡ 2
+second_version : (c : Settings) → number_at 2 (second_of c) 3 ≡ 2
 unfolding second_of front bytes_of number_at
-second-version c = refl
+second_version c = refl
 
 -- settings in range that are written and read back are returned
-pub read-written : (c : Settings) → SettingsFit c → in_range c ≡ true → readFrom (fileOf c) ≡ reading.Settings c
-read-written c r range = go (fitsFirst c) refl
+pub read_written : (c : Settings) → SettingsFit c → in_range c ≡ true → read_from (file_of c) ≡ reading.Settings c
+read_written c r range = go (fits_first c) refl
   where
-    go : (b : Bool) → fitsFirst c ≡ b → readFrom (cond b (first_of c) (second_of c)) ≡ reading.Settings c
+    go : (b : Bool) → fits_first c ≡ b → read_from (cond b (first_of c) (second_of c)) ≡ reading.Settings c
     go true e =
         let off = and_parts _ (eqb c.congestion 0) e in
         let stream = eqb-true c.stream 0 (and_parts (leb c.mtu 512) (eqb c.stream 0) off.0).1 in
-        sym (of-first (first_of c) (omega (arith, length-first c)) (first-magic c) (first-version c))
-        ∙ rw (length-first c, settings-of-first c r stream (eqb-true c.congestion 0 off.1), range, e)
+        sym (of_first (first_of c) (omega (arith, length_first c)) (first_magic c) (first_version c))
+        ∙ rw (length_first c, settings_of_first c r stream (eqb-true c.congestion 0 off.1), range, e)
     go false e =
-        sym (of-second (second_of c) (omega (arith, length-second c)) (second-magic c) (second-version c))
-        ∙ rw (length-second c, settings-of-second c r, range, e)
+        sym (of_second (second_of c) (omega (arith, length_second c)) (second_magic c) (second_version c))
+        ∙ rw (length_second c, settings_of_second c r, range, e)
 
-same-settings : (c d : Settings) → reading.Settings c ≡ reading.Settings d → c ≡ d
-same-settings c d e = cc
+same_settings : (c d : Settings) → reading.Settings c ≡ reading.Settings d → c ≡ d
+same_settings c d e = cc
 
-not-refused : (r : FileRefusal) (c : Settings) → reading.Refused r ≡ reading.Settings c → ⊥
-not-refused r c e = let z : ◌≡◌ {A = ℕ} 0 1 = cc in omega arith
+not_refused : (r : FileRefusal) (c : Settings) → reading.Refused r ≡ reading.Settings c → ⊥
+not_refused r c e = let z : ◌≡◌ {A = ℕ} 0 1 = cc in omega arith
 
 -- the bytes of f from i on, a of them and then b
 join : (a b i : ℕ) (f : List ℕ) → take a (drop i f) ++ take b (drop (i + a) f) ≡ take (a + b) (drop i f)
@@ -252,42 +252,42 @@ join a b i f = rw (take-add, drop-drop)
 
 module _ (f : List ℕ) (b : AllBytes f) where
   -- the magic, where f begins with it, and its version
-  front_of : (v : ℕ) → 5 ≤ length f → hasMagic f ≡ true → number_at 2 f 3 ≡ v → front v ≡ take 5 f
-  unfolding hasMagic front
+  front_of : (v : ℕ) → 5 ≤ length f → has_magic f ≡ true → number_at 2 f 3 ≡ v → front v ≡ take 5 f
+  unfolding has_magic front
   front_of v long m e =
-      ap (λ (l : List ℕ). l ++ bytes_of 2 v) (sym (first-same 3 f magic (omega arith) (omega arith) m))
-      ∙ rw (← e, bytes-of-number 2 f 3 b (omega arith), join 3 2 0)
+      ap (λ (l : List ℕ). l ++ bytes_of 2 v) (sym (first_same 3 f magic (omega arith) (omega arith) m))
+      ∙ rw (← e, bytes_of_number 2 f 3 b (omega arith), join 3 2 0)
 
-  back-of : (stream congestion : ℕ) → 15 ≤ length f → back (settingsAt f stream congestion) ≡ take 10 (drop 5 f)
-  unfolding back settingsAt
-  back-of stream congestion long =
+  back_of : (stream congestion : ℕ) → 15 ≤ length f → back (settings_at f stream congestion) ≡ take 10 (drop 5 f)
+  unfolding back settings_at
+  back_of stream congestion long =
       rw (
-        bytes-of-number 4 f 5 b (omega arith),
-        bytes-of-number 2 f 9 b (omega arith),
-        bytes-of-number 1 f 11 b (omega arith),
-        bytes-of-number 2 f 12 b (omega arith),
-        bytes-of-number 1 f 14 b (omega arith),
+        bytes_of_number 4 f 5 b (omega arith),
+        bytes_of_number 2 f 9 b (omega arith),
+        bytes_of_number 1 f 11 b (omega arith),
+        bytes_of_number 2 f 12 b (omega arith),
+        bytes_of_number 1 f 14 b (omega arith),
         join 4 2 5,
         join 6 1 5,
         join 7 2 5,
         join 9 1 5,
       )
 
-  added_of : 17 ≤ length f → added (settingsAt f (number_at 1 f 15) (number_at 1 f 16)) ≡ take 2 (drop 15 f)
-  unfolding added settingsAt
-  added_of long = rw (bytes-of-number 1 f 15 b (omega arith), bytes-of-number 1 f 16 b (omega arith), join 1 1 15)
+  added_of : 17 ≤ length f → added (settings_at f (number_at 1 f 15) (number_at 1 f 16)) ≡ take 2 (drop 15 f)
+  unfolding added settings_at
+  added_of long = rw (bytes_of_number 1 f 15 b (omega arith), bytes_of_number 1 f 16 b (omega arith), join 1 1 15)
 
-  first-of : length f ≡ 15 → hasMagic f ≡ true → number_at 2 f 3 ≡ 1 → first_of (settingsAt f 0 0) ≡ f
+  first_of_lem : length f ≡ 15 → has_magic f ≡ true → number_at 2 f 3 ≡ 1 → first_of (settings_at f 0 0) ≡ f
   unfolding first_of
-  first-of long m v =
-      rw (front_of 1 (omega (arith, long)) m v, back-of 0 0 (omega (arith, long)), join 5 10 0) (take_all 15 f (omega (arith, long)))
+  first_of_lem long m v =
+      rw (front_of 1 (omega (arith, long)) m v, back_of 0 0 (omega (arith, long)), join 5 10 0) (take_all 15 f (omega (arith, long)))
 
-  second-of : length f ≡ 17 → hasMagic f ≡ true → number_at 2 f 3 ≡ 2 → second_of (settingsAt f (number_at 1 f 15) (number_at 1 f 16)) ≡ f
+  second_of_lem : length f ≡ 17 → has_magic f ≡ true → number_at 2 f 3 ≡ 2 → second_of (settings_at f (number_at 1 f 15) (number_at 1 f 16)) ≡ f
   unfolding second_of
-  second-of long m v =
+  second_of_lem long m v =
       rw (
         front_of 2 (omega (arith, long)) m v,
-        back-of (number_at 1 f 15) (number_at 1 f 16) (omega (arith, long)),
+        back_of (number_at 1 f 15) (number_at 1 f 16) (omega (arith, long)),
         join 5 10 0,
         added_of (omega (arith, long)),
         join 15 2 0,
@@ -295,63 +295,63 @@ module _ (f : List ℕ) (b : AllBytes f) where
       (take_all 17 f (omega (arith, long)))
 
   -- a file of version 1 that is accepted is the one that writing gives
-  first_read : (c : Settings) → hasMagic f ≡ true → number_at 2 f 3 ≡ 1 → read_first f ≡ reading.Settings c → f ≡ fileOf c
-  first_read c m v e = go (eqb (length f) 15) refl (in_range s && fitsFirst s) refl e
+  first_read : (c : Settings) → has_magic f ≡ true → number_at 2 f 3 ≡ 1 → read_first f ≡ reading.Settings c → f ≡ file_of c
+  first_read c m v e = go (eqb (length f) 15) refl (in_range s && fits_first s) refl e
     where
       s : Settings
-      s = settingsAt f 0 0
+      s = settings_at f 0 0
 
-      go : (d : Bool) → eqb (length f) 15 ≡ d → (g : Bool) → (in_range s && fitsFirst s) ≡ g
+      go : (d : Bool) → eqb (length f) 15 ≡ d → (g : Bool) → (in_range s && fits_first s) ≡ g
           → cond d (cond g (reading.Settings s) (reading.Refused SettingOutOfRange)) (reading.Refused NotSettings) ≡ reading.Settings c
-          → f ≡ fileOf c
+          → f ≡ file_of c
       go true l true fit h =
-          let same : s ≡ c = same-settings s c h in
-          let fits : fitsFirst c ≡ true = ap fitsFirst (sym same) ∙ (and_parts (in_range s) (fitsFirst s) fit).1 in
-          rw fits (sym (first-of (eqb-true (length f) 15 l) m v) ∙ ap first_of same)
-      go true l false fit h = absurd (not-refused SettingOutOfRange c h)
-      go false l g fit h = absurd (not-refused NotSettings c h)
+          let same : s ≡ c = same_settings s c h in
+          let fits : fits_first c ≡ true = ap fits_first (sym same) ∙ (and_parts (in_range s) (fits_first s) fit).1 in
+          rw fits (sym (first_of_lem (eqb-true (length f) 15 l) m v) ∙ ap first_of same)
+      go true l false fit h = absurd (not_refused SettingOutOfRange c h)
+      go false l g fit h = absurd (not_refused NotSettings c h)
 
   -- and so is one of version 2
-  second-read : (c : Settings) → hasMagic f ≡ true → number_at 2 f 3 ≡ 2 → readSecond f ≡ reading.Settings c → f ≡ fileOf c
-  second-read c m v e = go (eqb (length f) 17) refl (in_range s) refl (fitsFirst s) refl e
+  second_read : (c : Settings) → has_magic f ≡ true → number_at 2 f 3 ≡ 2 → read_second f ≡ reading.Settings c → f ≡ file_of c
+  second_read c m v e = go (eqb (length f) 17) refl (in_range s) refl (fits_first s) refl e
     where
       s : Settings
-      s = settingsAt f (number_at 1 f 15) (number_at 1 f 16)
+      s = settings_at f (number_at 1 f 15) (number_at 1 f 16)
 
-      go : (d : Bool) → eqb (length f) 17 ≡ d → (g : Bool) → in_range s ≡ g → (n : Bool) → fitsFirst s ≡ n
+      go : (d : Bool) → eqb (length f) 17 ≡ d → (g : Bool) → in_range s ≡ g → (n : Bool) → fits_first s ≡ n
           → cond d
           (cond g (cond n (reading.Refused NeedlessVersion) (reading.Settings s)) (reading.Refused SettingOutOfRange))
           (reading.Refused NotSettings)
           ≡ reading.Settings c
-          → f ≡ fileOf c
+          → f ≡ file_of c
       go true l true range false fit h =
-          let same : s ≡ c = same-settings s c h in
-          let fits : fitsFirst c ≡ false = ap fitsFirst (sym same) ∙ fit in
-          rw fits (sym (second-of (eqb-true (length f) 17 l) m v) ∙ ap second_of same)
-      go true l true range true fit h = absurd (not-refused NeedlessVersion c h)
-      go true l false range n fit h = absurd (not-refused SettingOutOfRange c h)
-      go false l g range n fit h = absurd (not-refused NotSettings c h)
+          let same : s ≡ c = same_settings s c h in
+          let fits : fits_first c ≡ false = ap fits_first (sym same) ∙ fit in
+          rw fits (sym (second_of_lem (eqb-true (length f) 17 l) m v) ∙ ap second_of same)
+      go true l true range true fit h = absurd (not_refused NeedlessVersion c h)
+      go true l false range n fit h = absurd (not_refused SettingOutOfRange c h)
+      go false l g range n fit h = absurd (not_refused NotSettings c h)
 
 -- each file that is accepted is the one that writing gives
-pub written_read : (f : List ℕ) (c : Settings) → AllBytes f → readFrom f ≡ reading.Settings c → f ≡ fileOf c
-unfolding readFrom
-written_read f c b e = go (leb 5 (length f) && hasMagic f) refl (eqb (number_at 2 f 3) 1) refl (eqb (number_at 2 f 3) 2) refl e
+pub written_read : (f : List ℕ) (c : Settings) → AllBytes f → read_from f ≡ reading.Settings c → f ≡ file_of c
+unfolding read_from
+written_read f c b e = go (leb 5 (length f) && has_magic f) refl (eqb (number_at 2 f 3) 1) refl (eqb (number_at 2 f 3) 2) refl e
   where
-    go : (a : Bool) → (leb 5 (length f) && hasMagic f) ≡ a
+    go : (a : Bool) → (leb 5 (length f) && has_magic f) ≡ a
         → (p : Bool) → eqb (number_at 2 f 3) 1 ≡ p
         → (q : Bool) → eqb (number_at 2 f 3) 2 ≡ q
-        → cond a (cond p (read_first f) (cond q (readSecond f) (reading.Refused UnknownVersion))) (reading.Refused NotSettings)
+        → cond a (cond p (read_first f) (cond q (read_second f) (reading.Refused UnknownVersion))) (reading.Refused NotSettings)
         ≡ reading.Settings c
-        → f ≡ fileOf c
-    go true m true v q w h = first_read f b c (and_parts (leb 5 (length f)) (hasMagic f) m).1 (eqb-true (number_at 2 f 3) 1 v) h
-    go true m false v true w h = second-read f b c (and_parts (leb 5 (length f)) (hasMagic f) m).1 (eqb-true (number_at 2 f 3) 2 w) h
-    go true m false v false w h = absurd (not-refused UnknownVersion c h)
-    go false m p v q w h = absurd (not-refused NotSettings c h)
+        → f ≡ file_of c
+    go true m true v q w h = first_read f b c (and_parts (leb 5 (length f)) (has_magic f) m).1 (eqb-true (number_at 2 f 3) 1 v) h
+    go true m false v true w h = second_read f b c (and_parts (leb 5 (length f)) (has_magic f) m).1 (eqb-true (number_at 2 f 3) 2 w) h
+    go true m false v false w h = absurd (not_refused UnknownVersion c h)
+    go false m p v q w h = absurd (not_refused NotSettings c h)
 
 -- one setting has one file
-pub one-file : (f g : List ℕ) (c : Settings) → AllBytes f → AllBytes g
-    → readFrom f ≡ reading.Settings c → readFrom g ≡ reading.Settings c → f ≡ g
-one-file f g c a b p q = written_read f c a p ∙ sym (written_read g c b q)
+pub one_file : (f g : List ℕ) (c : Settings) → AllBytes f → AllBytes g
+    → read_from f ≡ reading.Settings c → read_from g ≡ reading.Settings c → f ≡ g
+one_file f g c a b p q = written_read f c a p ∙ sym (written_read g c b q)
 
 -- ---- the round trips, of the part that writing leaves
 
@@ -359,30 +359,30 @@ one-file f g c a b p q = written_read f c a p ∙ sym (written_read g c b q)
 pub record Wrote (c : Settings) (before after : List ℕ) (n : ℕ) : Type 0 where
   pub room : 17 ≤ length before
   pub range : in_range c ≡ true
-  pub file : take n after ≡ fileOf c
+  pub file : take n after ≡ file_of c
 
-decides : (c : Settings) (n k : ℕ) → writing.Wrote n ≡ writeInto c k → (17 ≤ k) × (in_range c ≡ true) × (n ≡ length (fileOf c))
-unfolding writeInto
+decides : (c : Settings) (n k : ℕ) → writing.Wrote n ≡ write_into c k → (17 ≤ k) × (in_range c ≡ true) × (n ≡ length (file_of c))
+unfolding write_into
 decides c n k e = go (leb 17 k) refl (in_range c) refl e
   where
     go : (a : Bool) → leb 17 k ≡ a → (b : Bool) → in_range c ≡ b
         → writing.Wrote n
-        ≡ cond a (cond b (writing.Wrote (length (fileOf c))) (writing.Refused SettingOutOfRange)) (writing.Refused ShortPart)
-        → (17 ≤ k) × (in_range c ≡ true) × (n ≡ length (fileOf c))
+        ≡ cond a (cond b (writing.Wrote (length (file_of c))) (writing.Refused SettingOutOfRange)) (writing.Refused ShortPart)
+        → (17 ≤ k) × (in_range c ≡ true) × (n ≡ length (file_of c))
     go true p true q h = (leb-true 17 k p, q, cc)
     go true p false q h = absurd (let z : ◌≡◌ {A = ℕ} 0 1 = cc in omega arith)
     go false p b q h = absurd (let z : ◌≡◌ {A = ℕ} 0 1 = cc in omega arith)
 
 -- a file has at most 17 bytes
-pub file-short : (c : Settings) → length (fileOf c) ≤ 17
-file-short c = go (fitsFirst c)
+pub file_short : (c : Settings) → length (file_of c) ≤ 17
+file_short c = go (fits_first c)
   where
     go : (b : Bool) → length (cond b (first_of c) (second_of c)) ≤ 17
-    go true = omega (arith, length-first c)
-    go false = omega (arith, length-second c)
+    go true = omega (arith, length_first c)
+    go false = omega (arith, length_second c)
 
-stored-front : (f l : List ℕ) → length f ≤ length l → take (length f) (sets l 0 f) ≡ f
-stored-front f l h = rw (sets-eq f l 0 (omega arith)) (take-append_seam f (drop (0 + length f) l))
+stored_front : (f l : List ℕ) → length f ≤ length l → take (length f) (sets l 0 f) ≡ f
+stored_front f l h = rw (sets-eq f l 0 (omega arith)) (take-append_seam f (drop (0 + length f) l))
 
 wrote : (c : Settings) (before after : List ℕ) (n : ℕ) → Writes c before (writing.Wrote n) after → Wrote c before after n
 wrote c before after n w =
@@ -390,21 +390,21 @@ wrote c before after n w =
     record {
       room = d.0;
       range = d.1;
-      file = rw (d.2, w.leaves) (stored-front (fileOf c) before (omega (arith, d.0, file-short c)));
+      file = rw (d.2, w.leaves) (stored_front (file_of c) before (omega (arith, d.0, file_short c)));
     }
 
 -- what `write` counts is at most 17 bytes
-pub wrote-short : (c : Settings) (before after : List ℕ) (n : ℕ) → Writes c before (writing.Wrote n) after → n ≤ 17
-wrote-short c before after n w = omega (arith, (decides c n (length before) w.answer).2, file-short c)
+pub wrote_short : (c : Settings) (before after : List ℕ) (n : ℕ) → Writes c before (writing.Wrote n) after → n ≤ 17
+wrote_short c before after n w = omega (arith, (decides c n (length before) w.answer).2, file_short c)
 
 -- the part that `write` leaves begins with a file that is read as these settings
-pub write-then-read : (c : Settings) (before after : List ℕ) (n : ℕ) → SettingsFit c → Writes c before (writing.Wrote n) after
-    → readFrom (take n after) ≡ reading.Settings c
-write-then-read c before after n fit w =
+pub write_then_read : (c : Settings) (before after : List ℕ) (n : ℕ) → SettingsFit c → Writes c before (writing.Wrote n) after
+    → read_from (take n after) ≡ reading.Settings c
+write_then_read c before after n fit w =
     let h = wrote c before after n w in
-    rw h.file (read-written c fit h.range)
+    rw h.file (read_written c fit h.range)
 
 -- a file that is accepted is the one that `write` leaves for its settings
-pub read-then-write : (f : List ℕ) (c : Settings) (before after : List ℕ) (n : ℕ) → AllBytes f → readFrom f ≡ reading.Settings c
+pub read_then_write : (f : List ℕ) (c : Settings) (before after : List ℕ) (n : ℕ) → AllBytes f → read_from f ≡ reading.Settings c
     → Writes c before (writing.Wrote n) after → take n after ≡ f
-read-then-write f c before after n b e w = (wrote c before after n w).file ∙ sym (written_read f c b e)
+read_then_write f c before after n b e w = (wrote c before after n w).file ∙ sym (written_read f c b e)

@@ -34,15 +34,15 @@ number_of NeedlessVersion = 20
 -- ---- the two versions
 
 -- version 1 has 15 bytes, version 2 has 17
-abbrev pub firstSize : ℕ
-firstSize = 15
+abbrev pub first_size : ℕ
+first_size = 15
 
-abbrev pub secondSize : ℕ
-secondSize = 17
+abbrev pub second_size : ℕ
+second_size = 17
 
 -- the settings that fit version 1: mtu up to 512, stream and congestion off
-abbrev pub fitsFirst : Settings → Bool
-fitsFirst c = leb c.mtu 512 && eqb c.stream 0 && eqb c.congestion 0
+abbrev pub fits_first : Settings → Bool
+fits_first c = leb c.mtu 512 && eqb c.stream 0 && eqb c.congestion 0
 
 -- ---- writing
 
@@ -69,39 +69,39 @@ unfoldable pub second_of : Settings → List ℕ
 second_of c = (front 2 ++ back c) ++ added c
 
 -- the file of these settings: version 1 exactly when they fit it
-abbrev pub fileOf : Settings → List ℕ
-fileOf c = cond (fitsFirst c) (first_of c) (second_of c)
+abbrev pub file_of : Settings → List ℕ
+file_of c = cond (fits_first c) (first_of c) (second_of c)
 
 -- writing into a part this long: 7 for one under 17 bytes, then 12; else how many bytes the file has
-unfoldable pub writeInto : Settings → ℕ → Writing
-writeInto c n =
-    cond (leb secondSize n)
-    (cond (in_range c) (writing.Wrote (length (fileOf c))) (writing.Refused SettingOutOfRange))
+unfoldable pub write_into : Settings → ℕ → Writing
+write_into c n =
+    cond (leb second_size n)
+    (cond (in_range c) (writing.Wrote (length (file_of c))) (writing.Refused SettingOutOfRange))
     (writing.Refused ShortPart)
 
 -- the part afterwards: the file at its start, which is as it was beyond it; refused, it is as it was
 abbrev pub Leaves : Settings → Writing → List ℕ → List ℕ → Type 0
-Leaves c (writing.Wrote n) before after = after ≡ sets before 0 (fileOf c)
+Leaves c (writing.Wrote n) before after = after ≡ sets before 0 (file_of c)
 Leaves c (writing.Refused r) before after = after ≡ before
 
 pub record Writes (c : Settings) (before : List ℕ) (a : Writing) (after : List ℕ) : Type 0 where
-  pub answer : a ≡ writeInto c (length before)
+  pub answer : a ≡ write_into c (length before)
   pub leaves : Leaves c a before after
 
 -- ---- reading
 
 -- whether the first n bytes are the same
-unfoldable pub sameFirst : ℕ → List ℕ → List ℕ → Bool
-sameFirst zero a b = true
-sameFirst (suc n) a b = sameFirst n a b && eqb (get_or a n 0) (get_or b n 0)
+unfoldable pub same_first : ℕ → List ℕ → List ℕ → Bool
+same_first zero a b = true
+same_first (suc n) a b = same_first n a b && eqb (get_or a n 0) (get_or b n 0)
 
 -- whether a file begins with the magic
-unfoldable pub hasMagic : List ℕ → Bool
-hasMagic f = sameFirst 3 f magic
+unfoldable pub has_magic : List ℕ → Bool
+has_magic f = same_first 3 f magic
 
 -- the settings of its bytes, in range or not, with this for stream and for congestion
-unfoldable pub settingsAt : List ℕ → ℕ → ℕ → Settings
-settingsAt f stream congestion =
+unfoldable pub settings_at : List ℕ → ℕ → ℕ → Settings
+settings_at f stream congestion =
     record {
       conv = number_at 4 f 5;
       mtu = number_at 2 f 9;
@@ -113,28 +113,28 @@ settingsAt f stream congestion =
     }
 
 -- version 1: stream and congestion are off; settings in range that fit it, or 12
-abbrev pub firstRanged : Settings → Reading
-firstRanged c = cond (in_range c && fitsFirst c) (reading.Settings c) (reading.Refused SettingOutOfRange)
+abbrev pub first_ranged : Settings → Reading
+first_ranged c = cond (in_range c && fits_first c) (reading.Settings c) (reading.Refused SettingOutOfRange)
 
 abbrev pub read_first : List ℕ → Reading
-read_first f = cond (eqb (length f) firstSize) (firstRanged (settingsAt f 0 0)) (reading.Refused NotSettings)
+read_first f = cond (eqb (length f) first_size) (first_ranged (settings_at f 0 0)) (reading.Refused NotSettings)
 
 -- version 2: stream, then congestion, at its end; 12 for settings out of range, then 20 for those that fit version 1
-abbrev pub secondRanged : Settings → Reading
-secondRanged c =
+abbrev pub second_ranged : Settings → Reading
+second_ranged c =
     cond (in_range c)
-    (cond (fitsFirst c) (reading.Refused NeedlessVersion) (reading.Settings c))
+    (cond (fits_first c) (reading.Refused NeedlessVersion) (reading.Settings c))
     (reading.Refused SettingOutOfRange)
 
-abbrev pub readSecond : List ℕ → Reading
-readSecond f =
-    cond (eqb (length f) secondSize)
-    (secondRanged (settingsAt f (number_at 1 f 15) (number_at 1 f 16)))
+abbrev pub read_second : List ℕ → Reading
+read_second f =
+    cond (eqb (length f) second_size)
+    (second_ranged (settings_at f (number_at 1 f 15) (number_at 1 f 16)))
     (reading.Refused NotSettings)
 
 -- 15 for under 5 bytes or a wrong magic, 16 for an unknown version, then by the version: 15 for a wrong length, then 12, then 20
-unfoldable pub readFrom : List ℕ → Reading
-readFrom f =
-    cond (leb 5 (length f) && hasMagic f)
-    (cond (eqb (number_at 2 f 3) 1) (read_first f) (cond (eqb (number_at 2 f 3) 2) (readSecond f) (reading.Refused UnknownVersion)))
+unfoldable pub read_from : List ℕ → Reading
+read_from f =
+    cond (leb 5 (length f) && has_magic f)
+    (cond (eqb (number_at 2 f 3) 1) (read_first f) (cond (eqb (number_at 2 f 3) 2) (read_second f) (reading.Refused UnknownVersion)))
     (reading.Refused NotSettings)

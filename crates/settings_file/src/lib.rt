@@ -4,21 +4,21 @@
 ghost use Rattle.std.specs.Prelude.{◌≡◌, ◌≤◌, length};
 ghost use Rattle.std.proofs.lemmas.List.Edits.{sets};
 ghost use Rattle.settings_file.specs.Files.{
-  firstSize,
-  secondSize,
-  fitsFirst,
+  first_size,
+  second_size,
+  fits_first,
   number_of,
   front,
   back,
   added,
-  fileOf,
-  hasMagic,
-  settingsAt,
-  firstRanged,
-  secondRanged,
+  file_of,
+  has_magic,
+  settings_at,
+  first_ranged,
+  second_ranged,
   read_first,
-  readSecond,
-  readFrom,
+  read_second,
+  read_from,
   Writes,
 };
 
@@ -84,14 +84,14 @@ impl FileRefusal {
 
 // Whether settings fit version 1.
 fn fits_first(settings: Settings) -> bool
-    ensures { result ≡ fitsFirst settings }
+    ensures { result ≡ fits_first settings }
 {
     (settings.mtu <= FIRST_MTU_MOST) & (settings.stream == 0) & (settings.congestion == 0)
 }
 
 // The magic and the version.
 fn put_front(out: &mut [u8], version: u16)
-    requires { firstSize ≤ length out.old }
+    requires { first_size ≤ length out.old }
     ensures { out.new ≡ sets out.old 0 (front version) }
 {
     let magic = MAGIC;
@@ -101,7 +101,7 @@ fn put_front(out: &mut [u8], version: u16)
 
 // The settings of both versions, behind magic and version.
 fn put_back(out: &mut [u8], settings: Settings)
-    requires { firstSize ≤ length out.old }
+    requires { first_size ≤ length out.old }
     ensures { out.new ≡ sets out.old 5 (back settings) }
 {
     number::put_u32(out, 5, settings.conv);
@@ -113,7 +113,7 @@ fn put_back(out: &mut [u8], settings: Settings)
 
 // What version 2 adds.
 fn put_added(out: &mut [u8], settings: Settings)
-    requires { secondSize ≤ length out.old }
+    requires { second_size ≤ length out.old }
     ensures { out.new ≡ sets out.old 15 (added settings) }
 {
     number::put_u8(out, 15, settings.stream);
@@ -122,8 +122,8 @@ fn put_added(out: &mut [u8], settings: Settings)
 
 // The file of these settings, and how many bytes it has.
 fn put_file(out: &mut [u8], settings: Settings) -> usize
-    requires { secondSize ≤ length out.old }
-    ensures { (result ≡ length (fileOf settings)) × (out.new ≡ sets out.old 0 (fileOf settings)) }
+    requires { second_size ≤ length out.old }
+    ensures { (result ≡ length (file_of settings)) × (out.new ≡ sets out.old 0 (file_of settings)) }
 {
     if fits_first(settings) {
         put_front(out, FIRST);
@@ -153,7 +153,7 @@ pub fn write(settings: Settings, out: &mut [u8]) -> Writing
 // Whether a file begins with the magic.
 fn has_magic(file: &[u8]) -> bool
     requires { 3 ≤ length file.now }
-    ensures { result ≡ hasMagic file.now }
+    ensures { result ≡ has_magic file.now }
 {
     let magic = MAGIC;
     let mut i: usize = 0;
@@ -168,8 +168,8 @@ fn has_magic(file: &[u8]) -> bool
 
 // The settings of a file's bytes, in range or not, with this for stream and for congestion.
 fn settings_at(file: &[u8], stream: u8, congestion: u8) -> Settings
-    requires { firstSize ≤ length file.now }
-    ensures { result ≡ settingsAt file.now stream congestion }
+    requires { first_size ≤ length file.now }
+    ensures { result ≡ settings_at file.now stream congestion }
 {
     Settings {
         conv: number::read_u32(file, 5),
@@ -184,7 +184,7 @@ fn settings_at(file: &[u8], stream: u8, congestion: u8) -> Settings
 
 // The settings of a file of version 1, or 12.
 fn first_ranged(settings: Settings) -> Reading
-    ensures { result ≡ firstRanged settings }
+    ensures { result ≡ first_ranged settings }
 {
     if settings.in_range() & fits_first(settings) {
         Reading::Settings(settings)
@@ -195,7 +195,7 @@ fn first_ranged(settings: Settings) -> Reading
 
 // The settings of a file of version 2, or 12, then 20.
 fn second_ranged(settings: Settings) -> Reading
-    ensures { result ≡ secondRanged settings }
+    ensures { result ≡ second_ranged settings }
 {
     if settings.in_range() {
         if fits_first(settings) {
@@ -218,7 +218,7 @@ fn read_first(file: &[u8]) -> Reading
 
 // A file of version 2: 15 for a wrong length, then 12, then 20.
 fn read_second(file: &[u8]) -> Reading
-    ensures { result ≡ readSecond file.now }
+    ensures { result ≡ read_second file.now }
 {
     if file.len() != SECOND_SIZE {
         return Reading::Refused(FileRefusal::NotSettings);
@@ -230,7 +230,7 @@ fn read_second(file: &[u8]) -> Reading
 
 // Reads a file: 15 for under 5 bytes or a wrong magic, 16 for an unknown version, then as the version says.
 pub fn read(file: &[u8]) -> Reading
-    ensures { result ≡ readFrom file.now }
+    ensures { result ≡ read_from file.now }
 {
     if file.len() < FRONT {
         return Reading::Refused(FileRefusal::NotSettings);

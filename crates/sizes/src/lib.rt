@@ -1,7 +1,7 @@
 // How long the lent parts must be: refusal 7.
 ghost use Rattle.std.specs.Prelude.{◌≡◌};
 ghost use Rattle.protocol.specs.Ranges.{mss};
-ghost use Rattle.sizes.specs.Sizes.{enough, enoughToFlush};
+ghost use Rattle.sizes.specs.Sizes.{enough, enough_to_flush};
 
 use protocol::{Protocol, Settings};
 
@@ -27,7 +27,7 @@ pub fn enough(settings: Settings, lent: Lengths) -> bool
 
 // Whether the parts lent to a flush are: those, its output and its lengths.
 pub fn enough_to_flush(settings: Settings, lent: Lengths, output: usize, lengths: usize) -> bool
-    ensures { result ≡ enoughToFlush (mss settings) lent output lengths }
+    ensures { result ≡ enough_to_flush (mss settings) lent output lengths }
 {
     enough(settings, lent)
         & (Protocol::OUTPUT_LEAST <= output)

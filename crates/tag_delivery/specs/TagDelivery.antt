@@ -9,41 +9,41 @@ use Rattle.std.proofs.Common.{sym, subst, ◌∙◌}
 use mathlib.Core.List.Memᴰ
 use mathlib.Core.List.{List, [], ◌∷◌, Memᴰ}
 use Rattle.protocol.specs.declared.Settings.{Settings}
-use Rattle.session.specs.Calls.{Call, Event, datagramsBy, readAnswers, messagesRead}
-use Rattle.delivery.specs.Accepted.{acceptedFor}
+use Rattle.session.specs.Calls.{Call, Event, datagrams_by, read_answers, messages_read}
+use Rattle.delivery.specs.Accepted.{accepted_for}
 use Rattle.delivery.specs.Hearing.{
   FewPushes,
   FedWith,
   HearsMore,
   start,
-  both-take,
+  both_take,
   both_read,
-  first-sends,
-  first-flushes,
-  first-updates,
-  first-checks,
-  second-sends,
-  second-flushes,
-  second-updates,
-  second-checks,
+  first_sends,
+  first_flushes,
+  first_updates,
+  first_checks,
+  second_sends,
+  second_flushes,
+  second_updates,
+  second_checks,
 }
 use Rattle.demands.specs.Steps.{Endpoint, SinceOpening}
-use Rattle.demands.specs.Demand3.{demand-3}
-use Rattle.tag_message.specs.Messages.{nameIn}
-use Rattle.tag_survey.specs.Tables.{entriesIn, entry_at}
+use Rattle.demands.specs.Demand3.{demand_3}
+use Rattle.tag_message.specs.Messages.{name_in}
+use Rattle.tag_survey.specs.Tables.{entries_in, entry_at}
 use Rattle.tag_table.specs.Changes.{TakesTag}
-use Rattle.tag_table.specs.OtherNames.{Other, PreservesOthers, take-preserves}
+use Rattle.tag_table.specs.OtherNames.{Other, PreservesOthers, take_preserves}
 use Rattle.tag_table.specs.declared.Changing.{Changing}
 
 -- a receiver hears what it hears itself
-hears-itself : (calls : List Call) → HearsMore calls calls
-hears-itself [] = start
-hears-itself (Call.takeIn d ∷ xs) = both-take (hears-itself xs)
-hears-itself (Call.read room ∷ xs) = both_read (hears-itself xs)
-hears-itself (Call.send m ∷ xs) = first-sends (second-sends (hears-itself xs))
-hears-itself (Call.flush t ∷ xs) = first-flushes (second-flushes (hears-itself xs))
-hears-itself (Call.update t ∷ xs) = first-updates (second-updates (hears-itself xs))
-hears-itself (Call.check t ∷ xs) = first-checks (second-checks (hears-itself xs))
+hears_itself : (calls : List Call) → HearsMore calls calls
+hears_itself [] = start
+hears_itself (Call.take_in d ∷ xs) = both_take (hears_itself xs)
+hears_itself (Call.read room ∷ xs) = both_read (hears_itself xs)
+hears_itself (Call.send m ∷ xs) = first_sends (second_sends (hears_itself xs))
+hears_itself (Call.flush t ∷ xs) = first_flushes (second_flushes (hears_itself xs))
+hears_itself (Call.update t ∷ xs) = first_updates (second_updates (hears_itself xs))
+hears_itself (Call.check t ∷ xs) = first_checks (second_checks (hears_itself xs))
 
 -- messages taken into a table, one after the other, refused ones included
 pub data Takes : List (List ℕ) → List ℕ → List ℕ → Type 0 where
@@ -52,41 +52,41 @@ pub data Takes : List (List ℕ) → List ℕ → List ℕ → Type 0 where
       → Takes (m ∷ ms) before after
 
 -- an entry whose name no message has is, byte for byte, as it was
-pub all-preserve :
+pub all_preserve :
     {ms : List (List ℕ)} {before after : List ℕ} → Takes ms before after → (i : ℕ) →
-    ((m : List ℕ) → Memᴰ m ms → Other (nameIn m) (entry_at (entriesIn before) i)) →
-    entry_at (entriesIn after) i ≡ entry_at (entriesIn before) i
-all-preserve none i o = refl
-all-preserve {ms = m ∷ ms} {before} {after} (next {between = between} a p r) i o =
-    let e = take-preserves m before a between p i (o m (Memᴰ.head refl)) in
-    all-preserve r i (λ n k. subst (λ (x : List ℕ). Other (nameIn n) x) (sym e) (o n (Memᴰ.tail k))) ∙ e
+    ((m : List ℕ) → Memᴰ m ms → Other (name_in m) (entry_at (entries_in before) i)) →
+    entry_at (entries_in after) i ≡ entry_at (entries_in before) i
+all_preserve none i o = refl
+all_preserve {ms = m ∷ ms} {before} {after} (next {between = between} a p r) i o =
+    let e = take_preserves m before a between p i (o m (Memᴰ.head refl)) in
+    all_preserve r i (λ n k. subst (λ (x : List ℕ). Other (name_in n) x) (sym e) (o n (Memᴰ.tail k))) ∙ e
 
 -- a message of a receiver, taken into a table: it is one that the sender was given, and every entry with another name is as it was
 pub record Genuine (accepted : List (List ℕ)) (m before after : List ℕ) : Type 0 where
   pub given : Memᴰ m accepted
-  pub preserves : PreservesOthers (nameIn m) before after
+  pub preserves : PreservesOthers (name_in m) before after
 
 module _
     (c : Settings) (calls heard : List Call) (events answers : List Event) (sender receiver : Endpoint)
     (sends : SinceOpening c calls events sender) (hears : SinceOpening c heard answers receiver)
-    (few : FewPushes c (datagramsBy events)) (fed : FedWith (datagramsBy events) heard)
+    (few : FewPushes c (datagrams_by events)) (fed : FedWith (datagrams_by events) heard)
   where
     -- what the receiver has read, the sender was given
-    pub read-given : (m : List ℕ) → Memᴰ m (messagesRead (readAnswers answers)) → Memᴰ m (acceptedFor c events)
-    read-given m k =
-        let b = (demand-3 c calls heard heard events answers answers sender receiver receiver sends hears hears few fed fed
-        (hears-itself heard)).first-receives.begins in
+    pub read_given : (m : List ℕ) → Memᴰ m (messages_read (read_answers answers)) → Memᴰ m (accepted_for c events)
+    read_given m k =
+        let b = (demand_3 c calls heard heard events answers answers sender receiver receiver sends hears hears few fed fed
+        (hears_itself heard)).first_receives.begins in
         subst (λ (l : List (List ℕ)). Memᴰ m l) b.whole (Memᴰ.append_left b.rest k)
 
     -- one message that it has read, taken into a table
-    pub taken-from-link :
-        (m before : List ℕ) (a : Changing) (after : List ℕ) → Memᴰ m (messagesRead (readAnswers answers)) → TakesTag m before a after →
-        Genuine (acceptedFor c events) m before after
-    taken-from-link m before a after k p = record { given = read-given m k; preserves = take-preserves m before a after p }
+    pub taken_from_link :
+        (m before : List ℕ) (a : Changing) (after : List ℕ) → Memᴰ m (messages_read (read_answers answers)) → TakesTag m before a after →
+        Genuine (accepted_for c events) m before after
+    taken_from_link m before a after k p = record { given = read_given m k; preserves = take_preserves m before a after p }
 
     -- all messages that it has read, taken one after the other: an entry whose name the sender was never given in a message is as it was
-    pub all-taken :
-        (before after : List ℕ) → Takes (messagesRead (readAnswers answers)) before after → (i : ℕ) →
-        ((m : List ℕ) → Memᴰ m (acceptedFor c events) → Other (nameIn m) (entry_at (entriesIn before) i)) →
-        entry_at (entriesIn after) i ≡ entry_at (entriesIn before) i
-    all-taken before after t i o = all-preserve t i (λ m k. o m (read-given m k))
+    pub all_taken :
+        (before after : List ℕ) → Takes (messages_read (read_answers answers)) before after → (i : ℕ) →
+        ((m : List ℕ) → Memᴰ m (accepted_for c events) → Other (name_in m) (entry_at (entries_in before) i)) →
+        entry_at (entries_in after) i ≡ entry_at (entries_in before) i
+    all_taken before after t i o = all_preserve t i (λ m k. o m (read_given m k))

@@ -2,8 +2,8 @@
 // is that of a free entry. Unused bytes are zero.
 ghost use Rattle.std.specs.Prelude.{◌≡◌, true, ◌+◌, ◌≤◌, ◌<◌, length, replicate};
 ghost use Rattle.std.proofs.lemmas.List.Edits.{sets};
-ghost use Rattle.tag_message.specs.Tags.{every, isTag};
-ghost use Rattle.tag_entry.specs.Entries.{entrySize, is_zero, sameBytes, nameLength, isUsed, isEntry, isNamed, padded, entry_of};
+ghost use Rattle.tag_message.specs.Tags.{every, is_tag};
+ghost use Rattle.tag_entry.specs.Entries.{entry_size, is_zero, same_bytes, name_length, is_used, is_entry, is_named, padded, entry_of};
 ghost use Rattle.tag_entry.specs.Fingerprints.{fingerprint};
 
 use tag_message::{NAME_MOST, VALUE_MOST, is_name};
@@ -31,8 +31,8 @@ fn all_zero(s: &[u8]) -> bool
 
 // Whether an entry that is not free is in its rules.
 fn is_used(e: &[u8]) -> bool
-    requires { length e.now ≡ entrySize }
-    ensures { result ≡ isUsed e.now }
+    requires { length e.now ≡ entry_size }
+    ensures { result ≡ is_used e.now }
 {
     let name = e[0] as usize;
     let value = e[VALUE_LENGTH] as usize;
@@ -49,8 +49,8 @@ fn is_used(e: &[u8]) -> bool
 
 // Whether an entry is in its rules.
 pub fn is_entry(e: &[u8]) -> bool
-    requires { length e.now ≡ entrySize }
-    ensures { result ≡ isEntry e.now }
+    requires { length e.now ≡ entry_size }
+    ensures { result ≡ is_entry e.now }
 {
     if e[0] == 0 { all_zero(e) } else { is_used(e) }
 }
@@ -58,7 +58,7 @@ pub fn is_entry(e: &[u8]) -> bool
 // Whether two runs of bytes, equally long, are the same.
 fn same(a: &[u8], b: &[u8]) -> bool
     requires { length a.now ≡ length b.now }
-    ensures { result ≡ sameBytes a.now b.now }
+    ensures { result ≡ same_bytes a.now b.now }
 {
     let mut i: usize = 0;
     while i < a.len() {
@@ -72,8 +72,8 @@ fn same(a: &[u8], b: &[u8]) -> bool
 
 // Whether an entry has this name.
 pub fn is_named(e: &[u8], name: &[u8]) -> bool
-    requires { (length e.now ≡ entrySize) × (nameLength e.now ≤ 32) }
-    ensures { result ≡ isNamed name.now e.now }
+    requires { (length e.now ≡ entry_size) × (name_length e.now ≤ 32) }
+    ensures { result ≡ is_named name.now e.now }
 {
     let len = e[0] as usize;
     if len == name.len() {
@@ -118,7 +118,7 @@ fn put_padded(out: &mut [u8], at: usize, most: usize, bytes: &[u8])
 
 // The entry of a name and a value, at `at`. No other byte changes.
 pub fn put_entry(out: &mut [u8], at: usize, name: &[u8], value: &[u8])
-    requires { (isTag name.now value.now ≡ true) × (at + entrySize ≤ length out.old) }
+    requires { (is_tag name.now value.now ≡ true) × (at + entry_size ≤ length out.old) }
     ensures { out.new ≡ sets out.old at (entry_of name.now value.now) }
 {
     put_padded(out, at, NAME_MOST, name);

@@ -3,10 +3,10 @@
 use Rattle.std.specs.Prelude.{◌≡◌, cond, ◌&&◌, List, [], ℕ, ◌+◌, ◌*◌, ltb, eqb, length}
 use Rattle.std.specs.Borrow.{Bor}
 use Rattle.pools.specs.Parts.{part}
-use Rattle.tag_message.specs.Tags.{isName}
+use Rattle.tag_message.specs.Tags.{is_name}
 use Rattle.tag_message.specs.declared.TagRefusal.TheVariants.{OtherSize, NotATag, NotATable}
-use Rattle.tag_entry.specs.Entries.{entrySize, valueLength}
-use Rattle.tag_survey.specs.Tables.{entryCount, tableSize, entriesIn, entry_at, isTable, place_of}
+use Rattle.tag_entry.specs.Entries.{entry_size, value_length}
+use Rattle.tag_survey.specs.Tables.{entry_count, table_size, entries_in, entry_at, is_table, place_of}
 use Rattle.tag_find.specs.declared.Part.{Part}
 use Rattle.tag_find.specs.declared.Finding.{Finding}
 use Rattle.tag_find.specs.declared.Finding.TheVariants as finding
@@ -15,30 +15,30 @@ use Rattle.tag_find.specs.declared.Presence.TheVariants as presence
 
 -- the value bytes of entry i, as a part of its table
 abbrev pub value_at : List (List ℕ) → ℕ → Part
-value_at es i = record { start = entrySize * i + 34; len = valueLength (entry_at es i) }
+value_at es i = record { start = entry_size * i + 34; len = value_length (entry_at es i) }
 
 -- the own table's value, else the defaults' one
 unfoldable pub first_of : List (List ℕ) → List (List ℕ) → ℕ → ℕ → Finding
 first_of own defaults i j =
-    cond (ltb i entryCount) (finding.Own (value_at own i)) (cond (ltb j entryCount) (finding.Defaults (value_at defaults j)) finding.Missing)
+    cond (ltb i entry_count) (finding.Own (value_at own i)) (cond (ltb j entry_count) (finding.Defaults (value_at defaults j)) finding.Missing)
 
 -- where a name is; 7 for a table of another size, 24 for one outside of its rules, 17 for what is no name
-unfoldable pub findIn : List ℕ → List ℕ → List ℕ → Finding
-findIn own defaults name =
-    cond (eqb (length own) tableSize && eqb (length defaults) tableSize)
-    (cond (isTable (entriesIn own) && isTable (entriesIn defaults))
-    (cond (isName name)
-    (first_of (entriesIn own) (entriesIn defaults) (place_of name (entriesIn own)) (place_of name (entriesIn defaults)))
+unfoldable pub find_in : List ℕ → List ℕ → List ℕ → Finding
+find_in own defaults name =
+    cond (eqb (length own) table_size && eqb (length defaults) table_size)
+    (cond (is_table (entries_in own) && is_table (entries_in defaults))
+    (cond (is_name name)
+    (first_of (entries_in own) (entries_in defaults) (place_of name (entries_in own)) (place_of name (entries_in defaults)))
     (finding.Refused NotATag))
     (finding.Refused NotATable))
     (finding.Refused OtherSize)
 
 -- whether it was found
-abbrev pub foundBy : Finding → Presence
-foundBy (finding.Own p) = presence.Found
-foundBy (finding.Defaults p) = presence.Found
-foundBy finding.Missing = presence.Missing
-foundBy (finding.Refused r) = presence.Refused r
+abbrev pub found_by : Finding → Presence
+found_by (finding.Own p) = presence.Found
+found_by (finding.Defaults p) = presence.Found
+found_by finding.Missing = presence.Missing
+found_by (finding.Refused r) = presence.Refused r
 
 -- ---- what is shown
 

@@ -1,8 +1,8 @@
 // A name is looked for in two tables of tags, the station's own and the line's defaults: find, ask and found. Refusals in the order
 // 7, 24, 17; asking shows an empty part where it is refused.
 ghost use Rattle.std.specs.Prelude.{◌≡◌, ◌<◌, length};
-ghost use Rattle.tag_survey.specs.Tables.{tableSize, entriesIn};
-ghost use Rattle.tag_find.specs.Findings.{value_at, first_of, findIn, foundBy, Shows, ShowsOwn, ShowsDefaults};
+ghost use Rattle.tag_survey.specs.Tables.{table_size, entries_in};
+ghost use Rattle.tag_find.specs.Findings.{value_at, first_of, find_in, found_by, Shows, ShowsOwn, ShowsDefaults};
 
 use tag_entry::{ENTRY, VALUE, VALUE_LENGTH};
 use tag_message::{TagRefusal, is_name};
@@ -34,8 +34,8 @@ pub enum Presence {
 
 // The value of entry i.
 fn value_at(table: &[u8], i: usize) -> Part
-    requires { (length table.now ≡ tableSize) × (i < 64) }
-    ensures { result ≡ value_at (entriesIn table.now) i }
+    requires { (length table.now ≡ table_size) × (i < 64) }
+    ensures { result ≡ value_at (entries_in table.now) i }
 {
     let at = ENTRY * i;
     Part {
@@ -46,7 +46,7 @@ fn value_at(table: &[u8], i: usize) -> Part
 
 // Where the value of a name is: in the station's own table, else in the line's defaults. Refuses 7, 24, 17.
 pub fn find(own: &[u8], defaults: &[u8], name: &[u8]) -> Finding
-    ensures { result ≡ findIn own.now defaults.now name.now }
+    ensures { result ≡ find_in own.now defaults.now name.now }
 {
     if own.len() != SIZE {
         return Finding::Refused(TagRefusal::OtherSize);
@@ -70,8 +70,8 @@ pub fn find(own: &[u8], defaults: &[u8], name: &[u8]) -> Finding
 
 // The value of entry i of the own table, else of entry j of the defaults.
 fn first_of(own: &[u8], defaults: &[u8], i: usize, j: usize) -> Finding
-    requires { (length own.now ≡ tableSize) × (length defaults.now ≡ tableSize) }
-    ensures { result ≡ first_of (entriesIn own.now) (entriesIn defaults.now) i j }
+    requires { (length own.now ≡ table_size) × (length defaults.now ≡ table_size) }
+    ensures { result ≡ first_of (entries_in own.now) (entries_in defaults.now) i j }
 {
     if i < ENTRIES {
         return Finding::Own(value_at(own, i));
@@ -84,7 +84,7 @@ fn first_of(own: &[u8], defaults: &[u8], i: usize, j: usize) -> Finding
 
 // Whether a name is in the station's own table or in the line's defaults. Refuses 7, 24, 17.
 pub fn found(own: &[u8], defaults: &[u8], name: &[u8]) -> Presence
-    ensures { result ≡ foundBy (findIn own.now defaults.now name.now) }
+    ensures { result ≡ found_by (find_in own.now defaults.now name.now) }
 {
     match find(own, defaults, name) {
         Finding::Own(_) => Presence::Found,
@@ -97,7 +97,7 @@ pub fn found(own: &[u8], defaults: &[u8], name: &[u8]) -> Presence
 // The value bytes of a name, without a copy: the very part of the station's own table, else of the line's defaults; an empty
 // part where nothing is found, or asking is refused.
 pub fn ask<'a>(own: &'a [u8], defaults: &'a [u8], name: &[u8]) -> &'a [u8]
-    ensures { Shows (findIn own.now defaults.now name.now) own.entry defaults.entry result }
+    ensures { Shows (find_in own.now defaults.now name.now) own.entry defaults.entry result }
 {
     match find(own, defaults, name) {
         Finding::Own(part) => {
@@ -117,7 +117,7 @@ pub fn ask<'a>(own: &'a [u8], defaults: &'a [u8], name: &[u8]) -> &'a [u8]
 
 // The same for each choice, with a lifetime of its own: the value where the own table has it, else an empty part of that table.
 pub fn ask_own<'a>(own: &'a [u8], defaults: &[u8], name: &[u8]) -> &'a [u8]
-    ensures { ShowsOwn (findIn own.now defaults.now name.now) own.entry result }
+    ensures { ShowsOwn (find_in own.now defaults.now name.now) own.entry result }
 {
     match find(own, defaults, name) {
         Finding::Own(part) => {
@@ -133,7 +133,7 @@ pub fn ask_own<'a>(own: &'a [u8], defaults: &[u8], name: &[u8]) -> &'a [u8]
 
 // The value where the own table has none and the defaults have it, else an empty part of the defaults.
 pub fn ask_defaults<'a>(own: &[u8], defaults: &'a [u8], name: &[u8]) -> &'a [u8]
-    ensures { ShowsDefaults (findIn own.now defaults.now name.now) defaults.entry result }
+    ensures { ShowsDefaults (find_in own.now defaults.now name.now) defaults.entry result }
 {
     match find(own, defaults, name) {
         Finding::Defaults(part) => {

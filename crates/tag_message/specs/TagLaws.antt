@@ -23,11 +23,11 @@ and_parts false b e = absurd (let z : ◌≡◌ {A = ℕ} 0 1 = cc in omega arit
 
 module _ {A : Type 0} (p : A → Bool) where
   -- one element more
-  pub every-snoc : (xs : List A) (x : A) → every p (xs ++ x ∷ []) ≡ (every p xs && p x)
+  pub every_snoc : (xs : List A) (x : A) → every p (xs ++ x ∷ []) ≡ (every p xs && p x)
   unfolding every
-  every-snoc [] x = and-true (p x)
-  every-snoc (y ∷ ys) x = rw (every-snoc ys x, and_assoc (p y) (every p ys) (p x))
+  every_snoc [] x = and-true (p x)
+  every_snoc (y ∷ ys) x = rw (every_snoc ys x, and_assoc (p y) (every p ys) (p x))
 
   -- the first i + 1 elements: those before, and the one at i
   pub every_more : (l : List A) (i : ℕ) (d : A) → i < length l → every p (take (i + 1) l) ≡ (every p (take i l) && p (get_or l i d))
-  every_more l i d h = rw (add-one, take-suc l i d) (every-snoc (take i l) (get_or l i d))
+  every_more l i d h = rw (add-one, take-suc l i d) (every_snoc (take i l) (get_or l i d))

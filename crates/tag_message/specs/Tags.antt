@@ -25,17 +25,17 @@ every p [] = true
 every p (x ∷ xs) = p x && every p xs
 
 -- bytes 33 to 126
-abbrev pub isPrintable : ℕ → Bool
-isPrintable b = leb 33 b && leb b 126
+abbrev pub is_printable : ℕ → Bool
+is_printable b = leb 33 b && leb b 126
 
 -- a name has 1 to 32 bytes, 33 to 126 each
-unfoldable pub isName : List ℕ → Bool
-isName l = leb 1 (length l) && leb (length l) 32 && every isPrintable l
+unfoldable pub is_name : List ℕ → Bool
+is_name l = leb 1 (length l) && leb (length l) 32 && every is_printable l
 
 -- a value has up to 64 bytes, of any kind
 abbrev pub is_value : List ℕ → Bool
 is_value l = leb (length l) 64
 
 -- a tag is a name and a value
-unfoldable pub isTag : List ℕ → List ℕ → Bool
-isTag name value = isName name && is_value value
+unfoldable pub is_tag : List ℕ → List ℕ → Bool
+is_tag name value = is_name name && is_value value

@@ -1,8 +1,8 @@
 // A tag message: a name length 1 to 32, the name in bytes 33 to 126, a value length 0 to 64, the value, and then the end.
 ghost use Rattle.std.specs.Prelude.{◌≡◌, ◌+◌, ◌≤◌, length};
 ghost use Rattle.std.proofs.lemmas.List.Edits.{sets};
-ghost use Rattle.tag_message.specs.Tags.{number_of, every, isPrintable, isName, isTag};
-ghost use Rattle.tag_message.specs.Messages.{counted, readFrom, Writes};
+ghost use Rattle.tag_message.specs.Tags.{number_of, every, is_printable, is_name, is_tag};
+ghost use Rattle.tag_message.specs.Messages.{counted, read_from, Writes};
 
 // The longest name and the longest value.
 pub const NAME_MOST: usize = 32;
@@ -53,7 +53,7 @@ impl TagRefusal {
 
 // Whether every byte is one of 33 to 126.
 pub fn all_printable(s: &[u8]) -> bool
-    ensures { result ≡ every isPrintable s.now }
+    ensures { result ≡ every is_printable s.now }
 {
     let mut all = true;
     let mut i: usize = 0;
@@ -67,14 +67,14 @@ pub fn all_printable(s: &[u8]) -> bool
 
 // Whether these bytes are a name.
 pub fn is_name(name: &[u8]) -> bool
-    ensures { result ≡ isName name.now }
+    ensures { result ≡ is_name name.now }
 {
     (1 <= name.len()) & (name.len() <= NAME_MOST) & all_printable(name)
 }
 
 // Whether these are a name and a value.
 pub fn is_tag(name: &[u8], value: &[u8]) -> bool
-    ensures { result ≡ isTag name.now value.now }
+    ensures { result ≡ is_tag name.now value.now }
 {
     is_name(name) & (value.len() <= VALUE_MOST)
 }
@@ -107,7 +107,7 @@ pub fn write(name: &[u8], value: &[u8], out: &mut [u8]) -> Writing
 
 // Reads a message: 17 where it is not of the form.
 pub fn read(message: &[u8]) -> Reading
-    ensures { result ≡ readFrom message.now }
+    ensures { result ≡ read_from message.now }
 {
     if message.len() < 1 {
         return Reading::Refused(TagRefusal::NotATag);

@@ -1,9 +1,9 @@
 // One pass over a table of tags: whether it is in its rules, where a name is, and which entry is the lowest free one.
 ghost use Rattle.std.specs.Prelude.{◌≡◌, true, ◌+◌, ◌≤◌, ◌<◌, length, take};
 ghost use Rattle.tag_message.specs.Tags.{every};
-ghost use Rattle.tag_entry.specs.Entries.{entrySize, nameLength, isEntry, isNamed};
-ghost use Rattle.tag_survey.specs.Tables.{tableSize, entriesIn, entry_at, some, isFresh, firstPlace};
-ghost use Rattle.tag_survey.specs.Surveys.{Met, stepped, seenAfter, surveyOf, Tested};
+ghost use Rattle.tag_entry.specs.Entries.{entry_size, name_length, is_entry, is_named};
+ghost use Rattle.tag_survey.specs.Tables.{table_size, entries_in, entry_at, some, is_fresh, first_place};
+ghost use Rattle.tag_survey.specs.Surveys.{Met, stepped, seen_after, survey_of, Tested};
 
 use tag_entry::{ENTRY, fingerprint, is_entry, is_named};
 
@@ -28,8 +28,8 @@ pub enum Surveyed {
 
 // Whether one of the first i entries has this name.
 fn named_before(table: &[u8], i: usize, name: &[u8]) -> bool
-    requires { (length table.now ≡ tableSize) × (i ≤ 64) × (every isEntry (take i (entriesIn table.now)) ≡ true) }
-    ensures { result ≡ some (isNamed name.now) (take i (entriesIn table.now)) }
+    requires { (length table.now ≡ table_size) × (i ≤ 64) × (every is_entry (take i (entries_in table.now)) ≡ true) }
+    ensures { result ≡ some (is_named name.now) (take i (entries_in table.now)) }
 {
     let mut j: usize = 0;
     while j < i {
@@ -45,9 +45,9 @@ fn named_before(table: &[u8], i: usize, name: &[u8]) -> bool
 // Whether no entry before entry i has its name. `met` has the fingerprints of the names before it; only where its own is
 // among them are the names compared. It is among them then.
 fn is_fresh(table: &[u8], i: usize, met: &mut [u8; 256]) -> bool
-    requires { Tested table.now i × Met met.old (take i (entriesIn table.now)) }
-    ensures fresh { result ≡ isFresh (take i (entriesIn table.now)) (entry_at (entriesIn table.now) i) }
-    ensures fingerprints { Met met.new (take (i + 1) (entriesIn table.now)) }
+    requires { Tested table.now i × Met met.old (take i (entries_in table.now)) }
+    ensures fresh { result ≡ is_fresh (take i (entries_in table.now)) (entry_at (entries_in table.now) i) }
+    ensures fingerprints { Met met.new (take (i + 1) (entries_in table.now)) }
 {
     let at = ENTRY * i;
     let e = &table[at..at + ENTRY];
@@ -82,8 +82,8 @@ fn passed(first: usize, i: usize, here: bool) -> usize
 impl Seen {
     // With entry i.
     fn with(self, i: usize, e: &[u8], name: &[u8]) -> Seen
-        requires { (i < 64) × (length e.now ≡ entrySize) × (nameLength e.now ≤ 32) }
-        ensures { result ≡ seenAfter name.now i e.now self }
+        requires { (i < 64) × (length e.now ≡ entry_size) × (name_length e.now ≤ 32) }
+        ensures { result ≡ seen_after name.now i e.now self }
     {
         let named = is_named(e, name);
         let free = e[0] == 0;
@@ -95,7 +95,7 @@ impl Seen {
 
     // The place of the name, else the lowest free one.
     pub fn place(self) -> usize
-        ensures { result ≡ firstPlace self.named self.free }
+        ensures { result ≡ first_place self.named self.free }
     {
         if self.named < ENTRIES {
             self.named
@@ -107,8 +107,8 @@ impl Seen {
 
 // Looks at each entry once.
 pub fn survey(table: &[u8], name: &[u8]) -> Surveyed
-    requires { length table.now ≡ tableSize }
-    ensures { result ≡ surveyOf name.now (entriesIn table.now) }
+    requires { length table.now ≡ table_size }
+    ensures { result ≡ survey_of name.now (entries_in table.now) }
 {
     let mut met = [0u8; 256];
     let mut seen = Seen { named: 0, free: 0 };

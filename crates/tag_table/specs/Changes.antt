@@ -1,28 +1,28 @@
 -- A table of tags is changed: set, take and remove. Definitions.
 -- Assumes nothing.
 use Rattle.std.specs.Prelude.{◌≡◌, Bool, cond, List, ℕ, ltb, eqb, length, set}
-use Rattle.tag_message.specs.Tags.{isName, isTag}
-use Rattle.tag_message.specs.Messages.{nameIn, valueIn, isMessage}
+use Rattle.tag_message.specs.Tags.{is_name, is_tag}
+use Rattle.tag_message.specs.Messages.{name_in, value_in, is_message}
 use Rattle.tag_message.specs.declared.TagRefusal.{TagRefusal}
 use Rattle.tag_message.specs.declared.TagRefusal.TheVariants.{OtherSize, NotATag, Full, Absent, NotATable}
-use Rattle.tag_entry.specs.Entries.{entry_of, freeEntry}
-use Rattle.tag_survey.specs.Tables.{entryCount, tableSize, entriesIn, isTable, place_of, placeFor}
+use Rattle.tag_entry.specs.Entries.{entry_of, free_entry}
+use Rattle.tag_survey.specs.Tables.{entry_count, table_size, entries_in, is_table, place_of, place_for}
 use Rattle.tag_table.specs.declared.Changing.{Changing}
 use Rattle.tag_table.specs.declared.Changing.TheVariants.{Done, Refused}
 
 -- 7 for a table of another size, 24 for one outside of its rules, 17 for what is not of its form, then 18 or 19 where there
 -- is no place for it
-unfoldable pub answerTo : List ℕ → Bool → ℕ → TagRefusal → Changing
-answerTo t formed place none =
-    cond (eqb (length t) tableSize)
-    (cond (isTable (entriesIn t))
-    (cond formed (cond (ltb place entryCount) Done (Refused none)) (Refused NotATag))
+unfoldable pub answer_to : List ℕ → Bool → ℕ → TagRefusal → Changing
+answer_to t formed place none =
+    cond (eqb (length t) table_size)
+    (cond (is_table (entries_in t))
+    (cond formed (cond (ltb place entry_count) Done (Refused none)) (Refused NotATag))
     (Refused NotATable))
     (Refused OtherSize)
 
 -- a table afterwards: these entries; refused, it is as it was
 abbrev pub Leaves : List (List ℕ) → Changing → List ℕ → List ℕ → Type 0
-Leaves es Done before after = (length after ≡ length before) × (entriesIn after ≡ es)
+Leaves es Done before after = (length after ≡ length before) × (entries_in after ≡ es)
 Leaves es (Refused r) before after = after ≡ before
 
 pub record Changes (answer : Changing) (es : List (List ℕ)) (before : List ℕ) (a : Changing) (after : List ℕ) : Type 0 where
@@ -31,29 +31,29 @@ pub record Changes (answer : Changing) (es : List (List ℕ)) (before : List ℕ
 
 -- the entries with a tag set: a known name's entry or the lowest free one is the tag's, every other is as it was
 unfoldable pub with_tag : List ℕ → List ℕ → List (List ℕ) → List (List ℕ)
-with_tag name value es = set es (placeFor name es) (entry_of name value)
+with_tag name value es = set es (place_for name es) (entry_of name value)
 
 -- the entries with a name removed: its entry is zero, every other is as it was
-unfoldable pub withoutTag : List ℕ → List (List ℕ) → List (List ℕ)
-withoutTag name es = set es (place_of name es) freeEntry
+unfoldable pub without_tag : List ℕ → List (List ℕ) → List (List ℕ)
+without_tag name es = set es (place_of name es) free_entry
 
 -- ---- what each call answers and promises
 
-abbrev pub setAnswer : List ℕ → List ℕ → List ℕ → Changing
-setAnswer name value t = answerTo t (isTag name value) (placeFor name (entriesIn t)) Full
+abbrev pub set_answer : List ℕ → List ℕ → List ℕ → Changing
+set_answer name value t = answer_to t (is_tag name value) (place_for name (entries_in t)) Full
 
 abbrev pub SetsTag : List ℕ → List ℕ → List ℕ → Changing → List ℕ → Type 0
-SetsTag name value t = Changes (setAnswer name value t) (with_tag name value (entriesIn t)) t
+SetsTag name value t = Changes (set_answer name value t) (with_tag name value (entries_in t)) t
 
 -- the tag of a message is set
-abbrev pub takeAnswer : List ℕ → List ℕ → Changing
-takeAnswer m t = answerTo t (isMessage m) (placeFor (nameIn m) (entriesIn t)) Full
+abbrev pub take_answer : List ℕ → List ℕ → Changing
+take_answer m t = answer_to t (is_message m) (place_for (name_in m) (entries_in t)) Full
 
 abbrev pub TakesTag : List ℕ → List ℕ → Changing → List ℕ → Type 0
-TakesTag m t = Changes (takeAnswer m t) (with_tag (nameIn m) (valueIn m) (entriesIn t)) t
+TakesTag m t = Changes (take_answer m t) (with_tag (name_in m) (value_in m) (entries_in t)) t
 
-abbrev pub removeAnswer : List ℕ → List ℕ → Changing
-removeAnswer name t = answerTo t (isName name) (place_of name (entriesIn t)) Absent
+abbrev pub remove_answer : List ℕ → List ℕ → Changing
+remove_answer name t = answer_to t (is_name name) (place_of name (entries_in t)) Absent
 
 abbrev pub RemovesTag : List ℕ → List ℕ → Changing → List ℕ → Type 0
-RemovesTag name t = Changes (removeAnswer name t) (withoutTag name (entriesIn t)) t
+RemovesTag name t = Changes (remove_answer name t) (without_tag name (entries_in t)) t

@@ -2,7 +2,7 @@
 // back. Proved by a walk.
 ghost use Rattle.promises.specs.Parts.{parts_of};
 ghost use Rattle.promises.specs.Promises.{InputPromise};
-ghost use Rattle.codes.specs.Codes.{answerCode};
+ghost use Rattle.codes.specs.Codes.{answer_code};
 ghost use Rattle.codes.specs.Gives.{Gives};
 
 use control::Link;
@@ -17,7 +17,7 @@ pub fn take_in(
     acks: &mut [u32],
     datagram: &[u8],
 ) -> i32
-    ensures { Gives answerCode (λ a. InputPromise datagram.now link.old
+    ensures { Gives answer_code (λ a. InputPromise datagram.now link.old
         (parts_of send_pool.now receive_pool.old table.old acks.old)
         a link.new
         (parts_of send_pool.now receive_pool.new table.new acks.new)) result }

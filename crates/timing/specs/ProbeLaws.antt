@@ -3,49 +3,49 @@
 use Rattle.std.specs.Prelude.{◌≡◌, refl, true, false, ℕ, ◌≤◌, ◌<◌, eqb, ltb}
 use Rattle.std.proofs.Common.{inl, inr, arith}
 use borrow.Author.Tests.{lt-ltb, le-ltb, eq-eqb, ne_eqb}
-use Rattle.protocol.specs.Serial.{isDue}
+use Rattle.protocol.specs.Serial.{is_due}
 use Rattle.timing.specs.Choices.{either_way}
-use Rattle.timing.specs.Probes.{stopped, started, longerWait, grown, nextClock}
+use Rattle.timing.specs.Probes.{stopped, started, longer_wait, grown, next_clock}
 use Rattle.timing.specs.TimeRanges.{WaitInRange, ClockFits}
 use Rattle.timing.specs.declared.ProbeClock.{ProbeClock}
 use Rattle.timing.specs.declared.Probed.{Probed}
 
 -- a wait grown stays in range, and a wait of 0 stays 0
-longer-in-range : (wait : ℕ) → WaitInRange wait → WaitInRange (longerWait wait)
-unfolding longerWait
-longer-in-range wait (inl e) = inl (omega arith)
-longer-in-range wait (inr h) = inr (omega arith)
+longer_in_range : (wait : ℕ) → WaitInRange wait → WaitInRange (longer_wait wait)
+unfolding longer_wait
+longer_in_range wait (inl e) = inl (omega arith)
+longer_in_range wait (inr h) = inr (omega arith)
 
 -- the clock c at a flush at t that finds this window of the peer
 module _ (c : ProbeClock) (t window : ℕ) where
   -- the four ways, each by the tests that lead there
-  pub when-open : {x : Probed} → 0 < window → x ≡ record { clock = stopped; ask = false } → x ≡ nextClock c t window
-  unfolding nextClock
-  when-open w q = rw (lt-ltb _ _ w) q
+  pub when_open : {x : Probed} → 0 < window → x ≡ record { clock = stopped; ask = false } → x ≡ next_clock c t window
+  unfolding next_clock
+  when_open w q = rw (lt-ltb _ _ w) q
 
-  pub when-stopped : {x : Probed} → window ≤ 0 → c.wait ≡ 0 → x ≡ record { clock = started t; ask = false } → x ≡ nextClock c t window
-  unfolding nextClock
-  when-stopped w e q = rw (le-ltb _ _ w, eq-eqb _ _ e) q
+  pub when_stopped : {x : Probed} → window ≤ 0 → c.wait ≡ 0 → x ≡ record { clock = started t; ask = false } → x ≡ next_clock c t window
+  unfolding next_clock
+  when_stopped w e q = rw (le-ltb _ _ w, eq-eqb _ _ e) q
 
-  pub when-due :
+  pub when_due :
       {x : Probed} →
       window ≤ 0 →
       (c.wait ≡ 0 → ⊥) →
-      isDue t c.due ≡ true →
+      is_due t c.due ≡ true →
       x ≡ record { clock = grown c.wait t; ask = true } →
-      x ≡ nextClock c t window
-  unfolding nextClock
-  when-due w e d q = rw (le-ltb _ _ w, ne_eqb _ _ e, d) q
+      x ≡ next_clock c t window
+  unfolding next_clock
+  when_due w e d q = rw (le-ltb _ _ w, ne_eqb _ _ e, d) q
 
-  pub when-not-due :
+  pub when_not_due :
       {x : Probed} →
       window ≤ 0 →
       (c.wait ≡ 0 → ⊥) →
-      isDue t c.due ≡ false →
+      is_due t c.due ≡ false →
       x ≡ record { clock = c; ask = false } →
-      x ≡ nextClock c t window
-  unfolding nextClock
-  when-not-due w e d q = rw (le-ltb _ _ w, ne_eqb _ _ e, d) q
+      x ≡ next_clock c t window
+  unfolding next_clock
+  when_not_due w e d q = rw (le-ltb _ _ w, ne_eqb _ _ e, d) q
 
   -- what holds of each way holds of what the flush does
   pub each_way :
@@ -54,14 +54,14 @@ module _ (c : ProbeClock) (t window : ℕ) where
       P (record { clock = started t; ask = false }) →
       P (record { clock = grown c.wait t; ask = true }) →
       P (record { clock = c; ask = false }) →
-      P (nextClock c t window)
-  unfolding nextClock
+      P (next_clock c t window)
+  unfolding next_clock
   each_way P stops starts grows waits =
-      either_way P (ltb 0 window) stops (either_way P (eqb c.wait 0) starts (either_way P (isDue t c.due) grows waits))
+      either_way P (ltb 0 window) stops (either_way P (eqb c.wait 0) starts (either_way P (is_due t c.due) grows waits))
 
-  pub next-in-range : WaitInRange c.wait → WaitInRange (nextClock c t window).clock.wait
-  next-in-range h = each_way (λ x. WaitInRange x.clock.wait) (inl refl) (inr (omega arith)) (longer-in-range c.wait h) h
+  pub next_in_range : WaitInRange c.wait → WaitInRange (next_clock c t window).clock.wait
+  next_in_range h = each_way (λ x. WaitInRange x.clock.wait) (inl refl) (inr (omega arith)) (longer_in_range c.wait h) h
 
-  pub next_fits : ClockFits c → ClockFits (nextClock c t window).clock
-  unfolding longerWait
+  pub next_fits : ClockFits c → ClockFits (next_clock c t window).clock
+  unfolding longer_wait
   next_fits f = each_way (λ x. ClockFits x.clock) (omega arith) (omega arith) (omega arith) f

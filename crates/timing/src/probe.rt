@@ -1,6 +1,6 @@
 // The probe clock, moved on by each flush before it writes.
 ghost use Rattle.std.specs.Prelude.{◌≡◌};
-ghost use Rattle.timing.specs.Probes.{started, longerWait, grown, nextClock};
+ghost use Rattle.timing.specs.Probes.{started, longer_wait, grown, next_clock};
 
 use crate::{ProbeClock, Probed, number};
 use protocol::{Protocol, serial};
@@ -17,7 +17,7 @@ fn started(t: u32) -> ProbeClock
 
 // A wait grown by half.
 fn longer_wait(wait: u32) -> u32
-    ensures { result ≡ longerWait wait }
+    ensures { result ≡ longer_wait wait }
 {
     number::capped(
         Protocol::PROBE_WAIT_MOST,
@@ -39,7 +39,7 @@ fn grown(wait: u32, t: u32) -> ProbeClock
 impl ProbeClock {
     // The clock after a flush at t that finds this window of the peer, and whether an ask is wanted.
     pub fn next(self, t: u32, window: u16) -> Probed
-        ensures { result ≡ nextClock self t window }
+        ensures { result ≡ next_clock self t window }
     {
         if 0 < window {
             return Probed {

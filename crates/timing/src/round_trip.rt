@@ -1,13 +1,13 @@
 // A sample of the round trip, and the timeout that comes of it.
 ghost use Rattle.std.specs.Prelude.{◌≡◌};
-ghost use Rattle.timing.specs.RoundTrips.{leastTimeout, nextSmoothed, nextVariation, timeoutOf, sampled};
+ghost use Rattle.timing.specs.RoundTrips.{least_timeout, next_smoothed, next_variation, timeout_of, sampled};
 
 use crate::{RoundTrip, number};
 use protocol::{Protocol, Settings};
 
 // The least timeout of a mode.
 pub fn least_timeout(mode: u8) -> u32
-    ensures { result ≡ leastTimeout mode }
+    ensures { result ≡ least_timeout mode }
 {
     if mode == 0 {
         Protocol::TIMEOUT_LEAST
@@ -18,7 +18,7 @@ pub fn least_timeout(mode: u8) -> u32
 
 // The smoothed time after a sample.
 fn next_smoothed(smoothed: u32, sample: u32) -> u32
-    ensures { result ≡ nextSmoothed smoothed sample }
+    ensures { result ≡ next_smoothed smoothed sample }
 {
     if smoothed == 0 {
         return sample;
@@ -29,7 +29,7 @@ fn next_smoothed(smoothed: u32, sample: u32) -> u32
 
 // The variation after a sample, by the smoothed time before it.
 fn next_variation(smoothed: u32, variation: u32, sample: u32) -> u32
-    ensures { result ≡ nextVariation smoothed variation sample }
+    ensures { result ≡ next_variation smoothed variation sample }
 {
     if smoothed == 0 {
         return sample / 2;
@@ -40,7 +40,7 @@ fn next_variation(smoothed: u32, variation: u32, sample: u32) -> u32
 
 // The link's timeout.
 fn timeout(settings: Settings, smoothed: u32, variation: u32) -> u32
-    ensures { result ≡ timeoutOf settings smoothed variation }
+    ensures { result ≡ timeout_of settings smoothed variation }
 {
     let least = least_timeout(settings.mode);
     let margin = number::larger(settings.interval as u64, 4 * number::wide(variation));

@@ -3,7 +3,7 @@ pub mod link;
 
 ghost use Rattle.std.specs.Prelude.{◌≡◌, ◌<◌, min, take};
 ghost use Rattle.notation.specs.Puts.{Put};
-ghost use Rattle.transcript.specs.Lines.{numberLine, bytesLine, refusalLine, answerLine, countLine, timeLine, datagramLines, row};
+ghost use Rattle.transcript.specs.Lines.{number_line, bytes_line, refusal_line, answer_line, count_line, time_line, datagram_lines, row};
 
 use answers::{Answer, Count, Time};
 use notation::put;
@@ -15,7 +15,7 @@ const NEWLINE: u8 = 10;
 
 // Words, and a number behind them.
 fn number_line(out: &mut [u8], at: usize, words: &[u8], n: u64) -> usize
-    ensures { Put out.old at (numberLine words.now n) result out.new }
+    ensures { Put out.old at (number_line words.now n) result out.new }
 {
     let behind = put::bytes(out, at, words);
     let end = put::number(out, behind, n);
@@ -24,7 +24,7 @@ fn number_line(out: &mut [u8], at: usize, words: &[u8], n: u64) -> usize
 
 // A word, and bytes behind it: `message`, `part` and `datagram`.
 pub fn bytes_line(out: &mut [u8], at: usize, words: &[u8], s: &[u8]) -> usize
-    ensures { Put out.old at (bytesLine words.now s.now) result out.new }
+    ensures { Put out.old at (bytes_line words.now s.now) result out.new }
 {
     let behind = put::bytes(out, at, words);
     let end = put::hex(out, behind, s);
@@ -32,14 +32,14 @@ pub fn bytes_line(out: &mut [u8], at: usize, words: &[u8], s: &[u8]) -> usize
 }
 
 pub fn refused(out: &mut [u8], at: usize, refusal: Refusal) -> usize
-    ensures { Put out.old at (refusalLine refusal) result out.new }
+    ensures { Put out.old at (refusal_line refusal) result out.new }
 {
     number_line(out, at, b"refused ", refusal.number() as u64)
 }
 
 // The answer of opening, sending or taking in.
 pub fn answer(out: &mut [u8], at: usize, answer: Answer) -> usize
-    ensures { Put out.old at (answerLine answer) result out.new }
+    ensures { Put out.old at (answer_line answer) result out.new }
 {
     match answer {
         Answer::Accepted => put::bytes(out, at, b"ok\n"),
@@ -49,7 +49,7 @@ pub fn answer(out: &mut [u8], at: usize, answer: Answer) -> usize
 
 // The answer of a flush, behind its datagrams, and of telling the size.
 pub fn count(out: &mut [u8], at: usize, count: Count) -> usize
-    ensures { Put out.old at (countLine count) result out.new }
+    ensures { Put out.old at (count_line count) result out.new }
 {
     match count {
         Count::Of(n) => number_line(out, at, b"ok ", n as u64),
@@ -59,7 +59,7 @@ pub fn count(out: &mut [u8], at: usize, count: Count) -> usize
 
 // The answer of a check.
 pub fn time(out: &mut [u8], at: usize, time: Time) -> usize
-    ensures { Put out.old at (timeLine time) result out.new }
+    ensures { Put out.old at (time_line time) result out.new }
 {
     match time {
         Time::At(t) => number_line(out, at, b"ok ", t as u64),
@@ -81,7 +81,7 @@ fn wide(x: u16) -> usize
 
 // A line for each of the first n datagrams, which stand one behind the other in `packed`.
 pub fn datagrams(out: &mut [u8], at: usize, packed: &[u8], lengths: &[u16], n: usize) -> usize
-    ensures { Put out.old at (datagramLines packed.now (take n lengths.now)) result out.new }
+    ensures { Put out.old at (datagram_lines packed.now (take n lengths.now)) result out.new }
 {
     let most = least(n, lengths.len());
     let mut here = at;

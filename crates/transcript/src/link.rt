@@ -1,9 +1,9 @@
 // The state of a link, and the segments that it holds, as lines of text.
 ghost use Rattle.std.specs.Prelude.{◌≡◌};
 ghost use Rattle.notation.specs.Puts.{Put};
-ghost use Rattle.words.specs.Words.{heldIn, outstandingIn, waitingIn};
-ghost use Rattle.transcript.specs.Lines.{each, flagOf, stateNumbers, stateLine, entry, heldEntry};
-ghost use Rattle.transcript.specs.Lines.{recordAt, sentEntry, outstandingEntry, waitingEntry, heldLine};
+ghost use Rattle.words.specs.Words.{held_in, outstanding_in, waiting_in};
+ghost use Rattle.transcript.specs.Lines.{each, flag_of, state_numbers, state_line, entry, held_entry};
+ghost use Rattle.transcript.specs.Lines.{record_at, sent_entry, outstanding_entry, waiting_entry, held_line};
 
 use crate::{NEWLINE, least, row};
 use control::Link;
@@ -18,7 +18,7 @@ fn wide(x: u32) -> u64
 }
 
 fn flag(x: u8) -> u64
-    ensures { result ≡ flagOf x }
+    ensures { result ≡ flag_of x }
 {
     if x == 0 { 0 } else { 1 }
 }
@@ -26,7 +26,7 @@ fn flag(x: u8) -> u64
 // snd_una snd_nxt rcv_nxt current peer_window srtt rttvar rto probe_wait probe_due ask tell dead acks queued outstanding
 // ready waiting next_flush updated cwnd ssthresh incr
 fn numbers(link: Link) -> [u64; 23]
-    ensures { result ≡ stateNumbers link }
+    ensures { result ≡ state_numbers link }
 {
     [
         wide(link.flight.una),
@@ -57,7 +57,7 @@ fn numbers(link: Link) -> [u64; 23]
 
 // The line of `state`.
 pub fn state(out: &mut [u8], at: usize, link: Link) -> usize
-    ensures { Put out.old at (stateLine link) result out.new }
+    ensures { Put out.old at (state_line link) result out.new }
 {
     let all = numbers(link);
     let behind = put::bytes(out, at, b"state");
@@ -76,7 +76,7 @@ fn entry(out: &mut [u8], at: usize, letter: u8, numbers: &[u64]) -> usize
 
 // A queued or ready segment.
 fn held_entry(out: &mut [u8], at: usize, letter: u8, h: Held) -> usize
-    ensures { Put out.old at (heldEntry letter h) result out.new }
+    ensures { Put out.old at (held_entry letter h) result out.new }
 {
     let all = [h.slot as u64, h.len as u64, h.fragment as u64];
     entry(out, at, letter, &all)
@@ -84,7 +84,7 @@ fn held_entry(out: &mut [u8], at: usize, letter: u8, h: Held) -> usize
 
 // Queued or ready segments.
 fn held(out: &mut [u8], at: usize, letter: u8, words: [u32; 128], count: usize) -> usize
-    ensures { Put out.old at (each (heldEntry letter) (heldIn words count)) result out.new }
+    ensures { Put out.old at (each (held_entry letter) (held_in words count)) result out.new }
 {
     let n = least(count, 128);
     let mut here = at;
@@ -99,7 +99,7 @@ fn held(out: &mut [u8], at: usize, letter: u8, words: [u32; 128], count: usize) 
 
 // The record at a slot; a blank one where there is none.
 fn record_at(table: [Record; 128], slot: u16) -> Record
-    ensures { result ≡ recordAt table slot }
+    ensures { result ≡ record_at table slot }
 {
     let i = slot as usize;
     if i < 128 {
@@ -115,7 +115,7 @@ fn record_at(table: [Record; 128], slot: u16) -> Record
 
 // An outstanding segment with its record.
 fn outstanding_entry(out: &mut [u8], at: usize, o: Outstanding, r: Record) -> usize
-    ensures { Put out.old at (sentEntry o r) result out.new }
+    ensures { Put out.old at (sent_entry o r) result out.new }
 {
     let h = o.held;
     let all = [
@@ -139,7 +139,7 @@ fn outstanding(
     count: usize,
     table: [Record; 128],
 ) -> usize
-    ensures { Put out.old at (each (outstandingEntry table) (outstandingIn words transmissions count)) result out.new }
+    ensures { Put out.old at (each (outstanding_entry table) (outstanding_in words transmissions count)) result out.new }
 {
     let n = least(count, 32);
     let mut here = at;
@@ -158,7 +158,7 @@ fn outstanding(
 
 // A waiting segment.
 fn waiting_entry(out: &mut [u8], at: usize, w: Waiting) -> usize
-    ensures { Put out.old at (waitingEntry w) result out.new }
+    ensures { Put out.old at (waiting_entry w) result out.new }
 {
     let h = w.held;
     let all = [
@@ -171,7 +171,7 @@ fn waiting_entry(out: &mut [u8], at: usize, w: Waiting) -> usize
 }
 
 fn waiting(out: &mut [u8], at: usize, words: [u32; 128], numbers: [u32; 128], count: usize) -> usize
-    ensures { Put out.old at (each waitingEntry (waitingIn words numbers count)) result out.new }
+    ensures { Put out.old at (each waiting_entry (waiting_in words numbers count)) result out.new }
 {
     let n = least(count, 128);
     let mut here = at;
@@ -189,7 +189,7 @@ fn waiting(out: &mut [u8], at: usize, words: [u32; 128], numbers: [u32; 128], co
 
 // The line of `held`: segments queued, outstanding, ready and waiting.
 pub fn segments(out: &mut [u8], at: usize, link: Link, table: [Record; 128]) -> usize
-    ensures { Put out.old at (heldLine link table) result out.new }
+    ensures { Put out.old at (held_line link table) result out.new }
 {
     let queued = link.queued;
     let sent = link.outstanding;

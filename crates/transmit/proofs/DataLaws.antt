@@ -10,17 +10,17 @@ use Rattle.protocol.specs.Ranges.{mss}
 use Rattle.retransmission.specs.declared.Transmission.{Transmission}
 use Rattle.lists.specs.declared.Held.{Held}
 use Rattle.lists.specs.declared.Sent.{Sent}
-use Rattle.session.specs.Flushing.{bytesOfSegment}
+use Rattle.session.specs.Flushing.{bytes_of_segment}
 use Rattle.packing.specs.declared.Packer.{Packer}
 use Rattle.packing.specs.Packers.{Fills, Room, Puts, Adds}
-use Rattle.packing.specs.PackerLaws.{length-segment, puts-adds, adds-as}
+use Rattle.packing.specs.PackerLaws.{length_segment, puts_adds, adds_as}
 use Rattle.words.specs.Words.{unpack}
 use Rattle.transmit.specs.declared.Flush.{Flush}
-use Rattle.transmit.specs.Writing.{data_of, InSlot, sentAs}
+use Rattle.transmit.specs.Writing.{data_of, InSlot, sent_as}
 
 -- a slot's payload ends within the pool
-in-pool : (m slot len size : ℕ) → len ≤ m → slot < 128 → 128 * m ≤ size → slot * m + len ≤ size
-in-pool m slot len size h g e = omega (arith, mul-le-mul_right m g)
+in_pool : (m slot len size : ℕ) → len ≤ m → slot < 128 → 128 * m ≤ size → slot * m + len ≤ size
+in_pool m slot len size h g e = omega (arith, mul-le-mul_right m g)
 
 -- the segment of a word, with its part read from there
 module _ (f : Flush) (word : ℕ) (x : Transmission) (held : Held) (pool : List ℕ) (e : held ≡ unpack word)
@@ -31,29 +31,29 @@ module _ (f : Flush) (word : ℕ) (x : Transmission) (held : Held) (pool : List 
   inside : InSlot (mss f.settings) held
   inside = rw e p
 
-  payload-end : held.slot * (f.settings.mtu - 24) + held.len ≤ length pool
-  payload-end = in-pool (f.settings.mtu - 24) held.slot held.len (length pool) inside.len inside.slot long
+  payload_end : held.slot * (f.settings.mtu - 24) + held.len ≤ length pool
+  payload_end = in_pool (f.settings.mtu - 24) held.slot held.len (length pool) inside.len inside.slot long
 
   small : 24 + held.len ≤ f.settings.mtu
   small = omega (arith, inside.len)
 
-  data-size : length (bytesOfSegment (data_of f pool read)) ≡ 24 + held.len
-  data-size = length-segment (data_of f pool read) ∙ simp (length-take, length-drop) (omega (arith, payload-end))
+  data_size : length (bytes_of_segment (data_of f pool read)) ≡ 24 + held.len
+  data_size = length_segment (data_of f pool read) ∙ simp (length-take, length-drop) (omega (arith, payload_end))
 
   -- what putting it asks
-  pub data-room : (k : Packer) (out lengths : List ℕ) → Room f.settings.mtu f.settings.mtu 1 k out lengths
+  pub data_room : (k : Packer) (out lengths : List ℕ) → Room f.settings.mtu f.settings.mtu 1 k out lengths
       → Room f.settings.mtu (24 + held.len) 1 k out lengths × (24 + held.len ≤ f.settings.mtu) ×
       (held.slot * (f.settings.mtu - 24) + held.len ≤ length pool)
-  data-room k out lengths r = (
+  data_room k out lengths r = (
     record { fills = r.fills; bytes = omega (arith, small, r.bytes); datagrams = r.datagrams },
     small,
-    payload-end,
+    payload_end,
   )
 
   -- what is put is added
-  pub data-adds : (k : Packer) (out lengths : List ℕ) (k' : Packer) (out' lengths' : List ℕ) → Fills f.settings.mtu k
-      → Puts f.settings.mtu (24 + held.len) (bytesOfSegment (data_of f pool read)) k out lengths k' out' lengths'
-      → Adds f.settings.mtu (data_of f pool (sentAs word x) ∷ []) f.settings.mtu 1 k out lengths k' out' lengths'
-  data-adds k out lengths k' out' lengths' q u =
-      adds-as (puts-adds f.settings.mtu (24 + held.len) (data_of f pool read) k out lengths k' out' lengths' data-size small q u) (rw e)
+  pub data_adds : (k : Packer) (out lengths : List ℕ) (k' : Packer) (out' lengths' : List ℕ) → Fills f.settings.mtu k
+      → Puts f.settings.mtu (24 + held.len) (bytes_of_segment (data_of f pool read)) k out lengths k' out' lengths'
+      → Adds f.settings.mtu (data_of f pool (sent_as word x) ∷ []) f.settings.mtu 1 k out lengths k' out' lengths'
+  data_adds k out lengths k' out' lengths' q u =
+      adds_as (puts_adds f.settings.mtu (24 + held.len) (data_of f pool read) k out lengths k' out' lengths' data_size small q u) (rw e)
       small (omega arith)

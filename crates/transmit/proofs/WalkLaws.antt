@@ -11,70 +11,70 @@ use lib.ListN.{length, take, drop, get_or, set, length-set}
 use lib.Seq.{take-add, take-take, set-get_or}
 use Rattle.timing.specs.declared.Record.{Record}
 use Rattle.retransmission.specs.declared.Transmission.{Transmission}
-use Rattle.retransmission.specs.TransmissionLaws.{transmission-not-sent}
+use Rattle.retransmission.specs.TransmissionLaws.{transmission_not_sent}
 use Rattle.lists.specs.declared.Sent.{Sent}
-use Rattle.lists.specs.Joining.{withRecord}
+use Rattle.lists.specs.Joining.{with_record}
 use Rattle.lists.specs.Views.{Holds}
-use Rattle.lists.proofs.Loops.{Packed, holds_as, packed_start, packed-put, packed-next, packed-done, view-end}
+use Rattle.lists.proofs.Loops.{Packed, holds_as, packed_start, packed_put, packed_next, packed_done, view_end}
 use Rattle.datagram.specs.Datagrams.{Segment}
 use Rattle.session.specs.Decides.{All}
-use Rattle.session.specs.Flushing.{afterRule, transmitted, some, someDead, wished}
-use Rattle.session.specs.RuleLaws.{sent-append}
+use Rattle.session.specs.Flushing.{after_rule, transmitted, some, some_dead, wished}
+use Rattle.session.specs.RuleLaws.{sent_append}
 use Rattle.packing.specs.declared.Packer.{Packer}
 use Rattle.packing.specs.Packers.{Fills, Room, Adds}
-use Rattle.packing.specs.PackerLaws.{adds_none, adds-append, adds-as, room-left}
-use Rattle.words.specs.Words.{unpack, outstandingAt}
-use Rattle.record_words.specs.RecordWords.{recordsIn}
-use Rattle.record_words.specs.RecordLaws.{records-length}
-use Rattle.numbering.specs.Sents.{sentIn}
-use Rattle.numbering.proofs.SentLaws.{sents, sents-take, sents-set, sents-get, sents-length, sents-front}
+use Rattle.packing.specs.PackerLaws.{adds_none, adds_append, adds_as, room_left}
+use Rattle.words.specs.Words.{unpack, outstanding_at}
+use Rattle.record_words.specs.RecordWords.{records_in}
+use Rattle.record_words.specs.RecordLaws.{records_length}
+use Rattle.numbering.specs.Sents.{sent_in}
+use Rattle.numbering.proofs.SentLaws.{sents, sents_take, sents_set, sents_get, sents_length, sents_front}
 use Rattle.transmit.specs.declared.Flush.{Flush}
-use Rattle.transmit.proofs.ControlLaws.{wished-none}
-use Rattle.transmit.specs.Writing.{ruleOf, leftBy, sentBy, lateBy, fastBy, sendsBy, data_of, InSlot, AllInSlots, sentAs, Walks}
+use Rattle.transmit.proofs.ControlLaws.{wished_none}
+use Rattle.transmit.specs.Writing.{rule_of, left_by, sent_by, late_by, fast_by, sends_by, data_of, InSlot, AllInSlots, sent_as, Walks}
 
 -- ---- lists
 
-prefix-more : {A : Type 0} (l r : List A) (i : ℕ) (y : A) → drop i l ≡ y ∷ r → take (i + 1) l ≡ take i l ++ (y ∷ [])
-prefix-more l r i y e = take-add i 1 l ∙ rw e
+prefix_more : {A : Type 0} (l r : List A) (i : ℕ) (y : A) → drop i l ≡ y ∷ r → take (i + 1) l ≡ take i l ++ (y ∷ [])
+prefix_more l r i y e = take-add i 1 l ∙ rw e
 
-all-next : {A : Type 0} (P : A → Type 0) (l r : List A) (i : ℕ) (y : A) → drop i l ≡ y ∷ r → All P l → P y
-all-next P l r i y e a = (rw e at (all_drop l i a)).0
+all_next : {A : Type 0} (P : A → Type 0) (l r : List A) (i : ℕ) (y : A) → drop i l ≡ y ∷ r → All P l → P y
+all_next P l r i y e a = (rw e at (all_drop l i a)).0
   where
     all_drop : (l : List _) (i : ℕ) → All P l → All P (drop i l)
     all_drop l zero a = a
     all_drop [] (suc i) a = a
     all_drop (x ∷ l) (suc i) a = all_drop l i a.1
 
-some-append : {A : Type 0} (test : A → Bool) (l m : List A) → some test (l ++ m) ≡ (some test l || some test m)
-some-append test [] m = refl
-some-append test (x ∷ l) m = rw (some-append test l m) (sym (or_assoc (test x) (some test l) (some test m)))
+some_append : {A : Type 0} (test : A → Bool) (l m : List A) → some test (l ++ m) ≡ (some test l || some test m)
+some_append test [] m = refl
+some_append test (x ∷ l) m = rw (some_append test l m) (sym (or_assoc (test x) (some test l) (some test m)))
 
 some_more : {A : Type 0} (test : A → Bool) (l : List A) (y : A) → some test (l ++ (y ∷ [])) ≡ (some test l || test y)
-some_more test l y = rw (some-append test l (y ∷ []), or-false)
+some_more test l y = rw (some_append test l (y ∷ []), or-false)
 
 -- ---- those that are sent
 
 -- the rule for the last one decides whether it is sent, and whether the link is dead by it
-module _ (f : Flush) (y x : Sent) (sends : Bool) (p : sends ≡ (ruleOf f y).rule.sends) (q : x ≡ afterRule (ruleOf f y)) where
-  one-sent : sentBy f (y ∷ []) ≡ cond sends (x ∷ []) []
+module _ (f : Flush) (y x : Sent) (sends : Bool) (p : sends ≡ (rule_of f y).rule.sends) (q : x ≡ after_rule (rule_of f y)) where
+  one_sent_lem : sent_by f (y ∷ []) ≡ cond sends (x ∷ []) []
   unfolding transmitted
-  one-sent = rw (p, q)
+  one_sent_lem = rw (p, q)
 
-  sent-data : (pool : List ℕ) (l : List Sent) → map (data_of f pool) (sentBy f (l ++ (y ∷ []))) ≡ map (data_of f pool) (sentBy f l)
+  sent_data : (pool : List ℕ) (l : List Sent) → map (data_of f pool) (sent_by f (l ++ (y ∷ []))) ≡ map (data_of f pool) (sent_by f l)
       ++ wished sends (data_of f pool x)
-  sent-data pool l = rw (sent-append, one-sent, map-append)
-      (ap (λ (r : List Segment). map (data_of f pool) (sentBy f l) ++ r) (by-rule sends))
+  sent_data pool l = rw (sent_append, one_sent_lem, map-append)
+      (ap (λ (r : List Segment). map (data_of f pool) (sent_by f l) ++ r) (by_rule sends))
     where
-      by-rule : (b : Bool) → map (data_of f pool) (cond b (x ∷ []) []) ≡ wished b (data_of f pool x)
-      by-rule true = refl
-      by-rule false = refl
+      by_rule : (b : Bool) → map (data_of f pool) (cond b (x ∷ []) []) ≡ wished b (data_of f pool x)
+      by_rule true = refl
+      by_rule false = refl
 
-  sent-dead : (l : List Sent) → someDead (sentBy f (l ++ (y ∷ []))) ≡ (someDead (sentBy f l) || (sends && eqb x.transmissions 20))
-  sent-dead l = rw (sent-append, one-sent, some-append) (ap (λ (b : Bool). someDead (sentBy f l) || b) (by-rule sends))
+  sent_dead : (l : List Sent) → some_dead (sent_by f (l ++ (y ∷ []))) ≡ (some_dead (sent_by f l) || (sends && eqb x.transmissions 20))
+  sent_dead l = rw (sent_append, one_sent_lem, some_append) (ap (λ (b : Bool). some_dead (sent_by f l) || b) (by_rule sends))
     where
-      by-rule : (b : Bool) → someDead (cond b (x ∷ []) []) ≡ (b && eqb x.transmissions 20)
-      by-rule true = or-false (eqb x.transmissions 20)
-      by-rule false = refl
+      by_rule : (b : Bool) → some_dead (cond b (x ∷ []) []) ≡ (b && eqb x.transmissions 20)
+      by_rule true = or-false (eqb x.transmissions 20)
+      by_rule false = refl
 
 -- ---- the loop
 
@@ -82,34 +82,34 @@ module _ (f : Flush) (y x : Sent) (sends : Bool) (p : sends ≡ (ruleOf f y).rul
 pub record Walking (f : Flush) (n : ℕ) (pool : List ℕ) (k₀ : Packer) (out₀ lengths₀ : List ℕ) (l₀ : List Sent)
     (ws ts rs : List ℕ) (k : Packer) (out lengths : List ℕ) (b b₁ b₂ b₃ : Bool) (i : ℕ) : Type 0 where
   pub wholes : length ts ≡ 32
-  pub whole-records : length rs ≡ 128
-  pub list : Packed 32 n l₀ (sents ws ts (recordsIn rs)) (leftBy f (drop i (take n l₀))) (leftBy f (take n l₀)) i i
-  pub adds : Adds f.settings.mtu (map (data_of f pool) (sentBy f (take i (take n l₀)))) (i * f.settings.mtu) i k₀ out₀ lengths₀ k out
+  pub whole_records : length rs ≡ 128
+  pub list : Packed 32 n l₀ (sents ws ts (records_in rs)) (left_by f (drop i (take n l₀))) (left_by f (take n l₀)) i i
+  pub adds : Adds f.settings.mtu (map (data_of f pool) (sent_by f (take i (take n l₀)))) (i * f.settings.mtu) i k₀ out₀ lengths₀ k out
       lengths
-  pub dead : b ≡ someDead (sentBy f (take i (take n l₀)))
-  pub late : b₁ ≡ lateBy f (take i (take n l₀))
-  pub fast : b₂ ≡ fastBy f (take i (take n l₀))
-  pub sends : b₃ ≡ sendsBy f (take i (take n l₀))
+  pub dead : b ≡ some_dead (sent_by f (take i (take n l₀)))
+  pub late : b₁ ≡ late_by f (take i (take n l₀))
+  pub fast : b₂ ≡ fast_by f (take i (take n l₀))
+  pub sends : b₃ ≡ sends_by f (take i (take n l₀))
 
 -- the same, by other names
-pub walking-as : {f : Flush} {n : ℕ} {pool : List ℕ} {k₀ : Packer} {out₀ lengths₀ : List ℕ} {l₀ : List Sent} {ws ts ts' rs rs' : List ℕ}
+pub walking_as : {f : Flush} {n : ℕ} {pool : List ℕ} {k₀ : Packer} {out₀ lengths₀ : List ℕ} {l₀ : List Sent} {ws ts ts' rs rs' : List ℕ}
     {k k' : Packer} {out out' lengths lengths' : List ℕ} {b b' late late' fast fast' sent sent' : Bool} {i : ℕ}
     → ts' ≡ ts → rs' ≡ rs → out' ≡ out → lengths' ≡ lengths → k' ≡ k → b' ≡ b → late' ≡ late → fast' ≡ fast
     → sent' ≡ sent
     → Walking f n pool k₀ out₀ lengths₀ l₀ ws ts rs k out lengths b late fast sent i
     → Walking f n pool k₀ out₀ lengths₀ l₀ ws ts' rs' k' out' lengths' b' late' fast' sent' i
-walking-as et er eo el ek eb ea ef es w = rw (et, er, eo, el, ek, eb, ea, ef, es) w
+walking_as et er eo el ek eb ea ef es w = rw (et, er, eo, el, ek, eb, ea, ef, es) w
 
 pub walking_start : (f : Flush) (n : ℕ) (pool : List ℕ) (k₀ : Packer) (out₀ lengths₀ ws ts rs : List ℕ)
     → n ≤ 32 → length ws ≡ 32 → length ts ≡ 32 → length rs ≡ 128 → Fills f.settings.mtu k₀
-    → Walking f n pool k₀ out₀ lengths₀ (sents ws ts (recordsIn rs)) ws ts rs k₀ out₀ lengths₀ false false false false 0
+    → Walking f n pool k₀ out₀ lengths₀ (sents ws ts (records_in rs)) ws ts rs k₀ out₀ lengths₀ false false false false 0
 unfolding transmitted
 walking_start f n pool k₀ out₀ lengths₀ ws ts rs h ew et er q =
     record {
       wholes = et;
-      whole-records = er;
-      list = packed_start _ 0 0 (omega arith) (omega arith) h (sents-length ws ts (recordsIn rs) ew et (records-length 32 rs er));
-      adds = adds-as (adds_none f.settings.mtu k₀ out₀ lengths₀ q) refl (omega arith) (omega arith);
+      whole_records = er;
+      list = packed_start _ 0 0 (omega arith) (omega arith) h (sents_length ws ts (records_in rs) ew et (records_length 32 rs er));
+      adds = adds_as (adds_none f.settings.mtu k₀ out₀ lengths₀ q) refl (omega arith) (omega arith);
       dead = refl;
       late = refl;
       fast = refl;
@@ -121,97 +121,97 @@ module _ (f : Flush) (n : ℕ) (pool : List ℕ) (k₀ : Packer) (out₀ lengths
     (w : Walking f n pool k₀ out₀ lengths₀ l₀ ws ts rs k out lengths dead late fast sent i) where
   module _ (h : i < n) where
     -- there is room for the next one
-    pub walking-room : Room f.settings.mtu (32 * f.settings.mtu) 32 k₀ out₀ lengths₀
+    pub walking_room : Room f.settings.mtu (32 * f.settings.mtu) 32 k₀ out₀ lengths₀
         → Room f.settings.mtu f.settings.mtu 1 k out lengths
-    walking-room a =
+    walking_room a =
         let below : suc i ≤ 32 = omega (arith, w.list.room) in
-        room-left w.adds a (omega (arith, mul-le-mul_right f.settings.mtu below)) (omega arith)
+        room_left w.adds a (omega (arith, mul-le-mul_right f.settings.mtu below)) (omega arith)
 
     module _ (whole : length ws ≡ 32) (r : Record) where
       -- what is read next
       abbrev read : Sent
-      read = withRecord (outstandingAt (get_or ws i 0) (get_or ts i 0)) (get_or (recordsIn rs) i r)
+      read = with_record (outstanding_at (get_or ws i 0) (get_or ts i 0)) (get_or (records_in rs) i r)
 
-      here : get_or (sents ws ts (recordsIn rs)) i (withRecord (outstandingAt 0 0) r) ≡ read
-      here = sents-get ws ts (recordsIn rs) i r (omega (arith, w.list.room)) (omega (arith, w.list.room, w.wholes))
+      here : get_or (sents ws ts (records_in rs)) i (with_record (outstanding_at 0 0) r) ≡ read
+      here = sents_get ws ts (records_in rs) i r (omega (arith, w.list.room)) (omega (arith, w.list.room, w.wholes))
           (omega (arith, w.list.room, w.list.written.whole))
 
       next : drop i (take n l₀) ≡ read ∷ drop (i + 1) (take n l₀)
-      next = rw here at (packed-next (withRecord (outstandingAt 0 0) r) h w.list)
+      next = rw here at (packed_next (with_record (outstanding_at 0 0) r) h w.list)
 
       -- it is in its slot
-      pub walking-inside : (m : ℕ) → AllInSlots m (take n l₀) → InSlot m (unpack (get_or ws i 0))
-      walking-inside m a = all-next (λ (y : Sent). InSlot m y.held) (take n l₀) (drop (i + 1) (take n l₀)) i read next a
+      pub walking_inside : (m : ℕ) → AllInSlots m (take n l₀) → InSlot m (unpack (get_or ws i 0))
+      walking_inside m a = all_next (λ (y : Sent). InSlot m y.held) (take n l₀) (drop (i + 1) (take n l₀)) i read next a
 
-      module _ (x : Transmission) (e : x ≡ (ruleOf f read).rule) where
-        after : sentAs (get_or ws i 0) x ≡ afterRule (ruleOf f read)
+      module _ (x : Transmission) (e : x ≡ (rule_of f read).rule) where
+        after : sent_as (get_or ws i 0) x ≡ after_rule (rule_of f read)
         after = rw e
 
         -- a turn
         turn : (ts' rs' : List ℕ) (k' : Packer) (out' lengths' : List ℕ) (b : Bool)
             → length ts' ≡ 32 → length rs' ≡ 128
-            → set (sents ws ts (recordsIn rs)) i (sentAs (get_or ws i 0) x) ≡ sents ws ts' (recordsIn rs')
-            → Adds f.settings.mtu (wished x.sends (data_of f pool (sentAs (get_or ws i 0) x))) f.settings.mtu 1 k out lengths k'
+            → set (sents ws ts (records_in rs)) i (sent_as (get_or ws i 0) x) ≡ sents ws ts' (records_in rs')
+            → Adds f.settings.mtu (wished x.sends (data_of f pool (sent_as (get_or ws i 0) x))) f.settings.mtu 1 k out lengths k'
             out' lengths'
             → b ≡ (x.sends && eqb x.transmissions 20)
             → Walking f n pool k₀ out₀ lengths₀ l₀ ws ts' rs' k' out' lengths' (dead || b) (late || x.late) (fast || x.fast)
             (sent || x.sends) (i + 1)
         turn ts' rs' k' out' lengths' b l m s a t =
-            let more = prefix-more (take n l₀) (drop (i + 1) (take n l₀)) i read next in
+            let more = prefix_more (take n l₀) (drop (i + 1) (take n l₀)) i read next in
             let sends = ap (λ (y : Transmission). y.sends) e in
             record {
               wholes = l;
-              whole-records = m;
-              list = rw (← s, after) (packed-put h (rw next at w.list));
-              adds = rw (more, sent-data f read (sentAs (get_or ws i 0) x) x.sends sends after)
-                  (adds-as (adds-append w.adds a) refl (omega arith) (omega arith));
-              dead = rw (more, sent-dead f read (sentAs (get_or ws i 0) x) x.sends sends after, ← w.dead, ← t);
+              whole_records = m;
+              list = rw (← s, after) (packed_put h (rw next at w.list));
+              adds = rw (more, sent_data f read (sent_as (get_or ws i 0) x) x.sends sends after)
+                  (adds_as (adds_append w.adds a) refl (omega arith) (omega arith));
+              dead = rw (more, sent_dead f read (sent_as (get_or ws i 0) x) x.sends sends after, ← w.dead, ← t);
               late = rw (more, map-append, some_more, ← w.late, ← e);
               fast = rw (more, map-append, some_more, ← w.fast, ← e);
               sends = rw (more, map-append, some_more, ← w.sends, ← e);
             }
 
         -- it is sent
-        pub walking-sent : (rs' : List ℕ) (k' : Packer) (out' lengths' : List ℕ) → x.sends ≡ true
-            → (length rs' ≡ 128) × (recordsIn rs' ≡ set (recordsIn rs) i x.updated)
-            → Adds f.settings.mtu (data_of f pool (sentAs (get_or ws i 0) x) ∷ []) f.settings.mtu 1 k out lengths k' out' lengths'
+        pub walking_sent : (rs' : List ℕ) (k' : Packer) (out' lengths' : List ℕ) → x.sends ≡ true
+            → (length rs' ≡ 128) × (records_in rs' ≡ set (records_in rs) i x.updated)
+            → Adds f.settings.mtu (data_of f pool (sent_as (get_or ws i 0) x) ∷ []) f.settings.mtu 1 k out lengths k' out' lengths'
             → Walking f n pool k₀ out₀ lengths₀ l₀ ws (set ts i x.transmissions) rs' k' out' lengths'
             (dead || eqb x.transmissions 20) (late || x.late) (fast || x.fast) true (i + 1)
-        walking-sent rs' k' out' lengths' s p a =
+        walking_sent rs' k' out' lengths' s p a =
             rw (s, or-true sent) at (turn (set ts i x.transmissions) rs' k' out' lengths' (eqb x.transmissions 20)
             (length-set ts i x.transmissions ∙ w.wholes) p.0
-            (sents-set ws ts (recordsIn rs) i (get_or ws i 0) x.transmissions x.updated ∙ rw (set-get_or ws i 0, p.1))
+            (sents_set ws ts (records_in rs) i (get_or ws i 0) x.transmissions x.updated ∙ rw (set-get_or ws i 0, p.1))
             (rw s a)
             (rw s))
 
         -- it is not sent, and stays
-        pub walking-unchanged : x.sends ≡ false → Walking f n pool k₀ out₀ lengths₀ l₀ ws ts rs k out lengths dead late fast sent (i + 1)
-        walking-unchanged s =
-            let same = e ∙ transmission-not-sent f.settings f.timeout f.t (get_or ts i 0) (get_or (recordsIn rs) i r)
+        pub walking_unchanged : x.sends ≡ false → Walking f n pool k₀ out₀ lengths₀ l₀ ws ts rs k out lengths dead late fast sent (i + 1)
+        walking_unchanged s =
+            let same = e ∙ transmission_not_sent f.settings f.timeout f.t (get_or ts i 0) (get_or (records_in rs) i r)
             (sym (ap (λ (y : Transmission). y.sends) e) ∙ s) in
             let on-time : x.late ≡ false = ap (λ (y : Transmission). y.late) same in
             let in-turn : x.fast ≡ false = ap (λ (y : Transmission). y.fast) same in
             rw (on-time, in-turn, s, or-false dead, or-false late, or-false fast, or-false sent) at (turn ts rs k out lengths false
-            w.wholes w.whole-records
-            (ap (λ (y : Sent). set (sents ws ts (recordsIn rs)) i y) (ap (sentAs (get_or ws i 0)) same ∙ sym here)
-            ∙ set-get_or (sents ws ts (recordsIn rs)) i (withRecord (outstandingAt 0 0) r))
-            (wished-none _ _ _ _ k out lengths x.sends s w.adds.fills)
+            w.wholes w.whole_records
+            (ap (λ (y : Sent). set (sents ws ts (records_in rs)) i y) (ap (sent_as (get_or ws i 0)) same ∙ sym here)
+            ∙ set-get_or (sents ws ts (records_in rs)) i (with_record (outstanding_at 0 0) r))
+            (wished_none _ _ _ _ k out lengths x.sends s w.adds.fills)
             (rw s))
 
   -- all are handled
-  pub walking-done : (ts₀ rs₀ : List ℕ) → l₀ ≡ sents ws ts₀ (recordsIn rs₀) → length ws ≡ 32 → n ≤ i
-      → Walks f (sentIn ws ts₀ (recordsIn rs₀) n) ws n pool k₀ out₀ lengths₀
+  pub walking_done : (ts₀ rs₀ : List ℕ) → l₀ ≡ sents ws ts₀ (records_in rs₀) → length ws ≡ 32 → n ≤ i
+      → Walks f (sent_in ws ts₀ (records_in rs₀) n) ws n pool k₀ out₀ lengths₀
       (record { packer = k; dead = dead; late = late; fast = fast; sent = sent }) ts rs out lengths
-  walking-done ts₀ rs₀ q whole h =
+  walking_done ts₀ rs₀ q whole h =
       let all : i ≡ n = omega (arith, w.list.upto) in
-      let here : take n l₀ ≡ sentIn ws ts₀ (recordsIn rs₀) n = rw q (sym (sents-take ws ts₀ (recordsIn rs₀) n)) in
-      let front : take i (take n l₀) ≡ sentIn ws ts₀ (recordsIn rs₀) n = rw all (take-take n n l₀ (omega arith) ∙ here) in
+      let here : take n l₀ ≡ sent_in ws ts₀ (records_in rs₀) n = rw q (sym (sents_take ws ts₀ (records_in rs₀) n)) in
+      let front : take i (take n l₀) ≡ sent_in ws ts₀ (records_in rs₀) n = rw all (take-take n n l₀ (omega arith) ∙ here) in
       let below : i ≤ 32 = omega (arith, w.list.room) in
       record {
-        adds = adds-as w.adds (rw front) (mul-le-mul_right f.settings.mtu below) below;
-        sent = sents-front ws ts rs n _ whole w.wholes w.whole-records
-            (subst (λ (m : ℕ). Holds 32 (sents ws ts (recordsIn rs)) m (leftBy f (sentIn ws ts₀ (recordsIn rs₀) n))) all
-            (holds_as (packed-done (rw (view-end l₀ n i h)) w.list) (ap (leftBy f) here)));
+        adds = adds_as w.adds (rw front) (mul-le-mul_right f.settings.mtu below) below;
+        sent = sents_front ws ts rs n _ whole w.wholes w.whole_records
+            (subst (λ (m : ℕ). Holds 32 (sents ws ts (records_in rs)) m (left_by f (sent_in ws ts₀ (records_in rs₀) n))) all
+            (holds_as (packed_done (rw (view_end l₀ n i h)) w.list) (ap (left_by f) here)));
         dead = rw front at w.dead;
         late = rw front at w.late;
         fast = rw front at w.fast;

@@ -6,14 +6,14 @@ use mathlib.Core.List.{List, [], ◌++◌, map, foldl, append_assoc}
 use Prim.Native.Nat.{ℕ, ◌+◌, ◌*◌, ◌≤◌, ◌<◌, ◌^◌}
 use native.Mathlib.Omega.{arith}
 use lib.ListN.{length}
-use Rattle.protocol.specs.Protocol.{windowAsk, windowTell}
+use Rattle.protocol.specs.Protocol.{window_ask, window_tell}
 use Rattle.lists.specs.declared.Sent.{Sent}
 use Rattle.datagram.specs.Datagrams.{Segment}
 use Rattle.session.specs.State.{Ack}
-use Rattle.session.specs.Flushing.{control, ackSegment, wished, packOne, packed}
+use Rattle.session.specs.Flushing.{control, ack_segment, wished, pack_one, packed}
 use Rattle.packing.specs.declared.Packer.{Packer}
-use Rattle.packing.specs.Packers.{carried_of, Output, bytesOfDatagrams, none, begun, Fills, Room, Adds, Finishes}
-use Rattle.packing.specs.PackerLaws.{adds-append, room-left, packs-none, finishes-output}
+use Rattle.packing.specs.Packers.{carried_of, Output, bytes_of_datagrams, none, begun, Fills, Room, Adds, Finishes}
+use Rattle.packing.specs.PackerLaws.{adds_append, room_left, packs_none, finishes_output}
 use Rattle.transmit.specs.declared.Flush.{Flush}
 use Rattle.transmit.specs.declared.Walked.{Walked}
 use Rattle.transmit.specs.Writing.{Writable, Walks, Writes}
@@ -31,9 +31,9 @@ module _ (f : Flush) (noted : ℕ) (acks words transmissions records : List ℕ)
       }
 
   -- for the controls
-  pub controls-room : (k : Packer) → k ≡ none → f.settings.mtu < 2 ^ 16
+  pub controls_room : (k : Packer) → k ≡ none → f.settings.mtu < 2 ^ 16
       → Room f.settings.mtu (24 * noted + 48) (noted + 2) k out lengths
-  controls-room k e h = rw e (record {
+  controls_room k e h = rw e (record {
     fills = (whole_room h).fills;
     bytes = omega (arith, w.few, w.bytes);
     datagrams = omega (arith, w.few, w.sizes);
@@ -42,41 +42,41 @@ module _ (f : Flush) (noted : ℕ) (acks words transmissions records : List ℕ)
   module _ (gs : List Segment) (k₀ k : Packer) (out' lengths' : List ℕ) (e : k₀ ≡ none)
       (a : Adds f.settings.mtu gs (24 * noted + 48) (noted + 2) k₀ out lengths k out' lengths') where
     -- for the data
-    pub data-left : Room f.settings.mtu (32 * f.settings.mtu) 32 k out' lengths'
-    data-left = room-left (rw e at a) (whole_room a.fills.word) (omega (arith, w.few)) (omega (arith, w.few))
+    pub data_left : Room f.settings.mtu (32 * f.settings.mtu) 32 k out' lengths'
+    data_left = room_left (rw e at a) (whole_room a.fills.word) (omega (arith, w.few)) (omega (arith, w.few))
 
     -- for the last length
-    pub last-left : (l : List Sent) (r : Walked) (transmissions' records' out'' lengths'' : List ℕ)
+    pub last_left : (l : List Sent) (r : Walked) (transmissions' records' out'' lengths'' : List ℕ)
         → Walks f l words n pool k out' lengths' r transmissions' records' out'' lengths''
         → Fills f.settings.mtu r.packer × (begun r.packer ≤ length lengths'')
-    last-left l r transmissions' records' out'' lengths'' v =
-        (v.adds.fills, omega (arith, v.adds.datagrams, v.adds.lengths-length, data-left.datagrams))
+    last_left l r transmissions' records' out'' lengths'' v =
+        (v.adds.fills, omega (arith, v.adds.datagrams, v.adds.lengths_length, data_left.datagrams))
 
 -- ---- what is written
 
-output-of : (mtu n m : ℕ) (gs : List Segment) (k₀ : Packer) (out lengths : List ℕ) (k : Packer) (out' lengths' : List ℕ) (count : ℕ)
+output_of : (mtu n m : ℕ) (gs : List Segment) (k₀ : Packer) (out lengths : List ℕ) (k : Packer) (out' lengths' : List ℕ) (count : ℕ)
     (lengths'' : List ℕ)
     → k₀ ≡ none → Adds mtu gs n m k₀ out lengths k out' lengths' → Finishes k lengths' count lengths''
-    → Output (bytesOfDatagrams (packed mtu gs)) out lengths count out' lengths''
+    → Output (bytes_of_datagrams (packed mtu gs)) out lengths count out' lengths''
 unfolding packed
-output-of mtu n m gs k₀ out lengths k out' lengths' count lengths'' e a c =
-    finishes-output out lengths k out' lengths' count lengths'' c (foldl (packOne mtu) (record { closed = []; filling = [] }) gs)
-    ((rw e at a).packs out lengths (record { closed = []; filling = [] }) (packs-none out lengths))
+output_of mtu n m gs k₀ out lengths k out' lengths' count lengths'' e a c =
+    finishes_output out lengths k out' lengths' count lengths'' c (foldl (pack_one mtu) (record { closed = []; filling = [] }) gs)
+    ((rw e at a).packs out lengths (record { closed = []; filling = [] }) (packs_none out lengths))
 
-pub writes-all : (f : Flush) (acks : List Ack) (ask tell : Bool) (l : List Sent) (words : List ℕ) (count : ℕ) (pool : List ℕ) (n m : ℕ)
+pub writes_all : (f : Flush) (acks : List Ack) (ask tell : Bool) (l : List Sent) (words : List ℕ) (count : ℕ) (pool : List ℕ) (n m : ℕ)
     (k₀ : Packer) (out lengths : List ℕ) (k : Packer) (out' lengths' : List ℕ) (r : Walked) (transmissions' records' out'' lengths'' : List ℕ)
     (number : ℕ) (lengths''' : List ℕ)
     → k₀ ≡ none
-    → Adds f.settings.mtu (map (ackSegment (carried_of f.carried)) acks ++ wished ask (control (carried_of f.carried) windowAsk 0 0)
-    ++ wished tell (control (carried_of f.carried) windowTell 0 0)) n m k₀ out lengths k out' lengths'
+    → Adds f.settings.mtu (map (ack_segment (carried_of f.carried)) acks ++ wished ask (control (carried_of f.carried) window_ask 0 0)
+    ++ wished tell (control (carried_of f.carried) window_tell 0 0)) n m k₀ out lengths k out' lengths'
     → Walks f l words count pool k out' lengths' r transmissions' records' out'' lengths''
     → Finishes r.packer lengths'' number lengths'''
     → Writes f acks ask tell l words count pool out lengths
     (record { dead = r.dead; late = r.late; fast = r.fast; sent = r.sent; count = number }) transmissions' records' out'' lengths'''
-writes-all f acks ask tell l words count pool n m k₀ out lengths k out' lengths' r ts' rs' out'' lengths'' number lengths''' e a v c =
+writes_all f acks ask tell l words count pool n m k₀ out lengths k out' lengths' r ts' rs' out'' lengths'' number lengths''' e a v c =
     record {
       output = rw (append_assoc, append_assoc) at
-          (output-of _ _ _ _ k₀ out lengths r.packer out'' lengths'' number lengths''' e (adds-append a v.adds) c);
+          (output_of _ _ _ _ k₀ out lengths r.packer out'' lengths'' number lengths''' e (adds_append a v.adds) c);
       sent = v.sent;
       dead = v.dead;
       late = v.late;

@@ -1,7 +1,7 @@
 -- What a flush writes, of a state's parts: the segments that it packs, and what is left of the outstanding ones. Definitions.
 -- Assumes nothing.
 use Rattle.std.specs.Prelude.{◌≡◌, Bool, List, ◌++◌, map, ℕ, ◌+◌, ◌*◌, ◌≤◌, ◌<◌, length}
-use Rattle.protocol.specs.Protocol.{windowAsk, windowTell, sendSlots}
+use Rattle.protocol.specs.Protocol.{window_ask, window_tell, send_slots}
 use Rattle.protocol.specs.Ranges.{mss}
 use Rattle.retransmission.specs.declared.Transmission.{Transmission}
 use Rattle.lists.specs.declared.Held.{Held}
@@ -16,18 +16,18 @@ use Rattle.session.specs.Flushing.{
   afterwards,
   transmitted,
   some,
-  someDead,
+  some_dead,
   control,
-  ackSegment,
-  dataSegment,
+  ack_segment,
+  data_segment,
   wished,
   packed,
 }
 use Rattle.packing.specs.declared.Packer.{Packer}
-use Rattle.packing.specs.Packers.{carried_of, Output, bytesOfDatagrams, Adds}
+use Rattle.packing.specs.Packers.{carried_of, Output, bytes_of_datagrams, Adds}
 use Rattle.words.specs.Words.{unpack}
-use Rattle.record_words.specs.RecordWords.{recordsIn}
-use Rattle.numbering.specs.Sents.{sentIn, SentFront}
+use Rattle.record_words.specs.RecordWords.{records_in}
+use Rattle.numbering.specs.Sents.{sent_in, SentFront}
 use Rattle.transmit.specs.declared.Flush.{Flush}
 use Rattle.transmit.specs.declared.Walked.{Walked}
 use Rattle.transmit.specs.declared.Written.{Written}
@@ -35,46 +35,46 @@ use Rattle.transmit.specs.declared.Written.{Written}
 -- ---- the outstanding segments
 
 -- what the flush does with one of them, and with each
-abbrev pub ruleOf : Flush → Sent → Ruled
-ruleOf f = ruling f.settings f.timeout f.t
+abbrev pub rule_of : Flush → Sent → Ruled
+rule_of f = ruling f.settings f.timeout f.t
 
-abbrev pub rulesOf : Flush → List Sent → List Ruled
-rulesOf f = ruled f.settings f.timeout f.t
+abbrev pub rules_of : Flush → List Sent → List Ruled
+rules_of f = ruled f.settings f.timeout f.t
 
 -- all of them afterwards
-abbrev pub leftBy : Flush → List Sent → List Sent
-leftBy f l = afterwards (rulesOf f l)
+abbrev pub left_by : Flush → List Sent → List Sent
+left_by f l = afterwards (rules_of f l)
 
 -- those that are sent, as they are then
-abbrev pub sentBy : Flush → List Sent → List Sent
-sentBy f l = transmitted (rulesOf f l)
+abbrev pub sent_by : Flush → List Sent → List Sent
+sent_by f l = transmitted (rules_of f l)
 
 -- one is sent because it was due, or because it was skipped
-abbrev pub lateBy : Flush → List Sent → Bool
-lateBy f l = some (λ (r : Ruled). r.rule.late) (rulesOf f l)
+abbrev pub late_by : Flush → List Sent → Bool
+late_by f l = some (λ (r : Ruled). r.rule.late) (rules_of f l)
 
-abbrev pub fastBy : Flush → List Sent → Bool
-fastBy f l = some (λ (r : Ruled). r.rule.fast) (rulesOf f l)
+abbrev pub fast_by : Flush → List Sent → Bool
+fast_by f l = some (λ (r : Ruled). r.rule.fast) (rules_of f l)
 
 -- one is sent
-abbrev pub sendsBy : Flush → List Sent → Bool
-sendsBy f l = some (λ (r : Ruled). r.rule.sends) (rulesOf f l)
+abbrev pub sends_by : Flush → List Sent → Bool
+sends_by f l = some (λ (r : Ruled). r.rule.sends) (rules_of f l)
 
 -- one of them as a data segment
 abbrev pub data_of : Flush → List ℕ → Sent → Segment
-data_of f pool = dataSegment (carried_of f.carried) (mss f.settings) f.t pool
+data_of f pool = data_segment (carried_of f.carried) (mss f.settings) f.t pool
 
 -- a held segment's length is at most mss, and its slot is one of the send pool
 pub record InSlot (m : ℕ) (h : Held) : Type 0 where
   pub len : h.len ≤ m
-  pub slot : h.slot < sendSlots
+  pub slot : h.slot < send_slots
 
 abbrev pub AllInSlots : ℕ → List Sent → Type 0
 AllInSlots m = All (λ (x : Sent). InSlot m x.held)
 
 -- the segment of this word as its rule leaves it
-abbrev pub sentAs : ℕ → Transmission → Sent
-sentAs word x = record { held = unpack word; transmissions = x.transmissions; «record» = x.updated }
+abbrev pub sent_as : ℕ → Transmission → Sent
+sent_as word x = record { held = unpack word; transmissions = x.transmissions; «record» = x.updated }
 
 -- what the checks of a flush have established of n outstanding segments: there are at most 32, each in its slot, and the send pool has 128
 -- slots
@@ -82,30 +82,30 @@ pub record Sendable (f : Flush) (words transmissions records : List ℕ) (n : �
   pub mtu : 24 ≤ f.settings.mtu
   pub whole : length words ≡ 32
   pub wholes : length transmissions ≡ 32
-  pub whole-records : length records ≡ 128
+  pub whole_records : length records ≡ 128
   pub count : n ≤ 32
-  pub inside : AllInSlots (mss f.settings) (sentIn words transmissions (recordsIn records) n)
+  pub inside : AllInSlots (mss f.settings) (sent_in words transmissions (records_in records) n)
   pub slots : 128 * mss f.settings ≤ length pool
 
 -- all n segments of l are handled: those sent are put as data, each is as its rule leaves it, and it is told whether one was sent, and
 -- whether one sent was transmitted 20 times, due or skipped
 pub record Walks (f : Flush) (l : List Sent) (words : List ℕ) (n : ℕ) (pool : List ℕ) (k : Packer) (out lengths : List ℕ) (r : Walked)
     (transmissions' records' out' lengths' : List ℕ) : Type 0 where
-  pub adds : Adds f.settings.mtu (map (data_of f pool) (sentBy f l)) (32 * f.settings.mtu) 32 k out lengths r.packer out' lengths'
-  pub sent : SentFront words transmissions' records' n (leftBy f l)
-  pub dead : r.dead ≡ someDead (sentBy f l)
-  pub late : r.late ≡ lateBy f l
-  pub fast : r.fast ≡ fastBy f l
-  pub sends : r.sent ≡ sendsBy f l
+  pub adds : Adds f.settings.mtu (map (data_of f pool) (sent_by f l)) (32 * f.settings.mtu) 32 k out lengths r.packer out' lengths'
+  pub sent : SentFront words transmissions' records' n (left_by f l)
+  pub dead : r.dead ≡ some_dead (sent_by f l)
+  pub late : r.late ≡ late_by f l
+  pub fast : r.fast ≡ fast_by f l
+  pub sends : r.sent ≡ sends_by f l
 
 -- ---- all that is written
 
 -- all acks in order, then a window ask and a window tell if wanted (sn and ts 0), then data
-abbrev pub segmentsOf : Flush → List Ack → Bool → Bool → List ℕ → List Sent → List Segment
-segmentsOf f acks ask tell pool sent =
-    map (ackSegment (carried_of f.carried)) acks
-    ++ (wished ask (control (carried_of f.carried) windowAsk 0 0)
-    ++ (wished tell (control (carried_of f.carried) windowTell 0 0)
+abbrev pub segments_of : Flush → List Ack → Bool → Bool → List ℕ → List Sent → List Segment
+segments_of f acks ask tell pool sent =
+    map (ack_segment (carried_of f.carried)) acks
+    ++ (wished ask (control (carried_of f.carried) window_ask 0 0)
+    ++ (wished tell (control (carried_of f.carried) window_tell 0 0)
     ++ map (data_of f pool) sent))
 
 -- what the checks of a flush have established besides: at most 256 acks, within the ack list; room for 258 headers and 32 whole datagrams,
@@ -122,10 +122,10 @@ pub record Writable (f : Flush) (noted : ℕ) (acks words transmissions records 
 -- was sent, and whether one sent was transmitted 20 times, due or skipped
 pub record Writes (f : Flush) (acks : List Ack) (ask tell : Bool) (l : List Sent) (words : List ℕ) (n : ℕ) (pool out lengths : List ℕ)
     (r : Written) (transmissions' records' out' lengths' : List ℕ) : Type 0 where
-  pub output : Output (bytesOfDatagrams (packed f.settings.mtu (segmentsOf f acks ask tell pool (sentBy f l)))) out lengths r.count
+  pub output : Output (bytes_of_datagrams (packed f.settings.mtu (segments_of f acks ask tell pool (sent_by f l)))) out lengths r.count
       out' lengths'
-  pub sent : SentFront words transmissions' records' n (leftBy f l)
-  pub dead : r.dead ≡ someDead (sentBy f l)
-  pub late : r.late ≡ lateBy f l
-  pub fast : r.fast ≡ fastBy f l
-  pub sends : r.sent ≡ sendsBy f l
+  pub sent : SentFront words transmissions' records' n (left_by f l)
+  pub dead : r.dead ≡ some_dead (sent_by f l)
+  pub late : r.late ≡ late_by f l
+  pub fast : r.fast ≡ fast_by f l
+  pub sends : r.sent ≡ sends_by f l

@@ -1,7 +1,7 @@
 // All acks in order, then a window ask and a window tell if wanted.
 ghost use Rattle.std.specs.Prelude.{◌++◌, map, ◌+◌, ◌*◌, ◌≤◌, length};
-ghost use Rattle.protocol.specs.Protocol.{windowAsk, windowTell};
-ghost use Rattle.session.specs.Flushing.{control, ackSegment, wished};
+ghost use Rattle.protocol.specs.Protocol.{window_ask, window_tell};
+ghost use Rattle.session.specs.Flushing.{control, ack_segment, wished};
 ghost use Rattle.control.specs.Views.{pairs};
 ghost use Rattle.packing.specs.Packers.{carried_of, Room, Adds};
 
@@ -19,7 +19,7 @@ fn put_acks(
     lengths: &mut [u16],
 ) -> Packer
     requires { Room mtu (24 * n) n packer out.old lengths.old × (24 ≤ mtu) × (2 * n ≤ length acks.now) }
-    ensures { Adds mtu (map (ackSegment (carried_of carried)) (pairs n acks.now)) (24 * n) n
+    ensures { Adds mtu (map (ack_segment (carried_of carried)) (pairs n acks.now)) (24 * n) n
         packer out.old lengths.old result out.new lengths.new }
 {
     let mut k = packer;
@@ -67,9 +67,9 @@ pub(crate) fn put_controls(
     lengths: &mut [u16],
 ) -> Packer
     requires { Room mtu (24 * n + 48) (n + 2) packer out.old lengths.old × (24 ≤ mtu) × (2 * n ≤ length acks.now) }
-    ensures { Adds mtu (map (ackSegment (carried_of carried)) (pairs n acks.now)
-        ++ wished ask (control (carried_of carried) windowAsk 0 0)
-        ++ wished tell (control (carried_of carried) windowTell 0 0)) (24 * n + 48) (n + 2)
+    ensures { Adds mtu (map (ack_segment (carried_of carried)) (pairs n acks.now)
+        ++ wished ask (control (carried_of carried) window_ask 0 0)
+        ++ wished tell (control (carried_of carried) window_tell 0 0)) (24 * n + 48) (n + 2)
         packer out.old lengths.old result out.new lengths.new }
 {
     let acked = put_acks(packer, mtu, carried, acks, n, out, lengths);

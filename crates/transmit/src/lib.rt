@@ -4,8 +4,8 @@ mod controls;
 mod transmitting;
 
 ghost use Rattle.control.specs.Views.{pairs};
-ghost use Rattle.record_words.specs.RecordWords.{recordsIn};
-ghost use Rattle.numbering.specs.Sents.{sentIn};
+ghost use Rattle.record_words.specs.RecordWords.{records_in};
+ghost use Rattle.numbering.specs.Sents.{sent_in};
 ghost use Rattle.transmit.specs.Writing.{Writable, Writes};
 
 use packing::{Carried, Packer};
@@ -60,7 +60,7 @@ pub fn write(
 ) -> Written
     requires { Writable flush noted acks.now words.now transmissions.old records.old n pool.now out.old lengths.old }
     ensures { Writes flush (pairs noted acks.now) ask tell
-        (sentIn words.now transmissions.old (recordsIn records.old) n) words.now n
+        (sent_in words.now transmissions.old (records_in records.old) n) words.now n
         pool.now out.old lengths.old
         result transmissions.new records.new out.new lengths.new }
 {

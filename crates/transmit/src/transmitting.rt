@@ -3,9 +3,9 @@ ghost use Rattle.std.specs.Prelude.{[], ◌∷◌, ◌*◌, ◌≤◌, length};
 ghost use Rattle.protocol.specs.Ranges.{mss};
 ghost use Rattle.packing.specs.Packers.{Room, Adds};
 ghost use Rattle.words.specs.Words.{unpack};
-ghost use Rattle.record_words.specs.RecordWords.{recordsIn};
-ghost use Rattle.numbering.specs.Sents.{sentIn};
-ghost use Rattle.transmit.specs.Writing.{data_of, InSlot, sentAs, Sendable, Walks};
+ghost use Rattle.record_words.specs.RecordWords.{records_in};
+ghost use Rattle.numbering.specs.Sents.{sent_in};
+ghost use Rattle.transmit.specs.Writing.{data_of, InSlot, sent_as, Sendable, Walks};
 
 use crate::{Flush, Walked};
 use lists::Sent;
@@ -25,7 +25,7 @@ fn put_sent(
 ) -> Packer
     requires { Room flush.settings.mtu flush.settings.mtu 1 packer out.old lengths.old × (24 ≤ flush.settings.mtu)
         × InSlot (mss flush.settings) (unpack word) × (128 * mss flush.settings ≤ length pool.now) }
-    ensures { Adds flush.settings.mtu (data_of flush pool.now (sentAs word x) ∷ []) flush.settings.mtu 1
+    ensures { Adds flush.settings.mtu (data_of flush pool.now (sent_as word x) ∷ []) flush.settings.mtu 1
         packer out.old lengths.old result out.new lengths.new }
 {
     let held = words::unpacked(word);
@@ -61,7 +61,7 @@ pub(crate) fn put_outstanding(
 ) -> Walked
     requires { Room flush.settings.mtu (32 * flush.settings.mtu) 32 packer out.old lengths.old
         × Sendable flush words.now transmissions.old records.old n pool.now }
-    ensures { Walks flush (sentIn words.now transmissions.old (recordsIn records.old) n)
+    ensures { Walks flush (sent_in words.now transmissions.old (records_in records.old) n)
         words.now n pool.now packer out.old lengths.old
         result transmissions.new records.new out.new lengths.new }
 {

@@ -8,17 +8,17 @@ use Rattle.answers.specs.declared.Count.{Count}
 use Rattle.answers.specs.declared.Count.TheVariants as count
 use Rattle.answers.specs.declared.Update.{Update}
 use Rattle.answers.specs.declared.Update.TheVariants as update
-use Rattle.flush_core.specs.Flushes.{updateOf}
+use Rattle.flush_core.specs.Flushes.{update_of}
 
 module _ (u : Update) where
-  pub waited : u ≡ update.Waited → (n : Count) → u ≡ updateOf n → count.Of 0 ≡ n
+  pub waited : u ≡ update.Waited → (n : Count) → u ≡ update_of n → count.Of 0 ≡ n
   waited e (count.Of k) f = absurd (let z : ◌≡◌ {A = ℕ} 0 1 = cc in omega arith)
   waited e (count.Refused q) f = absurd (let z : ◌≡◌ {A = ℕ} 0 1 = cc in omega arith)
 
-  pub wrote : (m : ℕ) → u ≡ update.Wrote m → (n : Count) → u ≡ updateOf n → count.Of m ≡ n
+  pub wrote : (m : ℕ) → u ≡ update.Wrote m → (n : Count) → u ≡ update_of n → count.Of m ≡ n
   wrote m e (count.Of k) f = cc
   wrote m e (count.Refused q) f = absurd (let z : ◌≡◌ {A = ℕ} 0 1 = cc in omega arith)
 
-  pub refused : (r : Refusal) → u ≡ update.Refused r → (n : Count) → u ≡ updateOf n → count.Refused r ≡ n
+  pub refused : (r : Refusal) → u ≡ update.Refused r → (n : Count) → u ≡ update_of n → count.Refused r ≡ n
   refused r e (count.Of k) f = absurd (let z : ◌≡◌ {A = ℕ} 0 1 = cc in omega arith)
   refused r e (count.Refused q) f = cc

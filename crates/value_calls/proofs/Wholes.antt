@@ -8,19 +8,19 @@ use Rattle.timing.specs.declared.Record.{Record}
 use mir.Val.{Val}
 use borrow.Author.Rules.{length_unmapped}
 use denote.Laws.{Is}
-use Rattle.control.specs.Views.{Whole, arraysOf}
+use Rattle.control.specs.Views.{Whole, arrays_of}
 use Rattle.control.specs.declared.Link.{Link}
 use Rattle.control.specs.contracts.Link as B
 
-pub whole_of : (l : Link) (vs : List Val) → Is B.the_row l vs → Whole (arraysOf l)
+pub whole_of : (l : Link) (vs : List Val) → Is B.the_row l vs → Whole (arrays_of l)
 whole_of l vs is =
     let g = is.1.1.1.1.1.1 in
     record {
-      whole-queued = length_unmapped ℕ l.queued 128 g.0.1.0.1;
-      whole-outstanding = length_unmapped ℕ l.outstanding 32 g.1.0.1.0.1;
-      whole-transmissions = length_unmapped ℕ l.transmissions 32 g.1.1.0.1.0.1;
+      whole_queued = length_unmapped ℕ l.queued 128 g.0.1.0.1;
+      whole_outstanding = length_unmapped ℕ l.outstanding 32 g.1.0.1.0.1;
+      whole_transmissions = length_unmapped ℕ l.transmissions 32 g.1.1.0.1.0.1;
       whole_ready = length_unmapped ℕ l.ready 128 g.1.1.1.0.1.0.1;
-      whole-waiting = length_unmapped ℕ l.waiting 128 g.1.1.1.1.0.1.0.1;
+      whole_waiting = length_unmapped ℕ l.waiting 128 g.1.1.1.1.0.1.0.1;
       whole_numbers = length_unmapped ℕ l.waiting_numbers 128 g.1.1.1.1.1.0.1.0.1;
     }
 

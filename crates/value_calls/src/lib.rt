@@ -3,12 +3,12 @@
 ghost use Rattle.std.specs.Prelude.{◌≡◌, length, take, drop};
 ghost use Rattle.checking.specs.Verdicts.{Sound};
 ghost use Rattle.promises.specs.Promises.{ShowsPart};
-ghost use Rattle.promises.specs.Parts.{parts_of, flushPartsOf};
+ghost use Rattle.promises.specs.Parts.{parts_of, flush_parts_of};
 ghost use Rattle.promises.specs.Outcomes.{shows};
 ghost use Rattle.promises.specs.Promises.{OpenPromise, SendPromise, InputPromise, FlushPromise, ReadPromise, SizePromise};
 ghost use Rattle.promises.specs.Promises.{UpdatePromise, CheckPromise};
 ghost use Rattle.answers.specs.declared.Count.{Count};
-ghost use Rattle.flush_core.specs.Flushes.{updateOf};
+ghost use Rattle.flush_core.specs.Flushes.{update_of};
 
 use answers::{Answer, Count, Time, Update};
 use checking::flights;
@@ -311,7 +311,7 @@ pub fn input(
 
 // A flush's answer as a count.
 fn count_of(update: Update) -> Count
-    ensures { (n : Count) → update ≡ updateOf n → result ≡ n }
+    ensures { (n : Count) → update ≡ update_of n → result ≡ n }
 {
     match update {
         Update::Waited => Count::Of(0),
@@ -334,9 +334,9 @@ pub fn flush(
 ) -> FlushedOut
     ensures { FlushPromise t link (parts_of send_pool.now receive_pool.now (take lent table)
         acks.now)
-        (flushPartsOf output.old lengths.old)
+        (flush_parts_of output.old lengths.old)
         result.answer result.link (parts_of send_pool.now receive_pool.now (take lent result.table) acks.now)
-        (flushPartsOf output.new lengths.new) × (drop lent result.table ≡ drop lent table) }
+        (flush_parts_of output.new lengths.new) × (drop lent result.table ≡ drop lent table) }
 {
     let settings = link.settings;
     let flight = link.flight;
@@ -415,9 +415,9 @@ pub fn update(
 ) -> UpdatedOut
     ensures { UpdatePromise t link
         (parts_of send_pool.now receive_pool.now (take lent table) acks.now)
-        (flushPartsOf output.old lengths.old)
+        (flush_parts_of output.old lengths.old)
         result.answer result.link (parts_of send_pool.now receive_pool.now (take lent result.table) acks.now)
-        (flushPartsOf output.new lengths.new) × (drop lent result.table ≡ drop lent table) }
+        (flush_parts_of output.new lengths.new) × (drop lent result.table ≡ drop lent table) }
 {
     let settings = link.settings;
     let flight = link.flight;

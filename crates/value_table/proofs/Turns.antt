@@ -10,27 +10,27 @@ use lib.ListN.{length, get_or, set, take, drop, length-map, length-take, drop_of
 use lib.Seq.{get_or-take, length-take-le, take_all, set_out}
 use Rattle.timing.specs.declared.Record.{Record}
 use Rattle.records.specs.Tables.{blank}
-use Rattle.records.specs.Tables.{slotsIn}
+use Rattle.records.specs.Tables.{slots_in}
 
 -- of 128 records, the count that is lent
 module _ (table : List Record) (lent most : ℕ) (whole : length table ≡ 128) (e : most ≡ min lent 128) where
-  pub lent-front : take most table ≡ take lent table
-  lent-front = go (dec_le lent 128)
+  pub lent_front : take most table ≡ take lent table
+  lent_front = go (dec_le lent 128)
     where
       go : Dec (lent ≤ 128) → take most table ≡ take lent table
       go (yes h) = let q : most ≡ lent = omega arith in rw q
       go (no h) = let q : most ≡ 128 = omega arith in rw q (take_all 128 table (omega arith) ∙ sym (take_all lent table (omega arith)))
 
-  pub lent-rest : drop most table ≡ drop lent table
-  lent-rest = go (dec_le lent 128)
+  pub lent_rest : drop most table ≡ drop lent table
+  lent_rest = go (dec_le lent 128)
     where
       go : Dec (lent ≤ 128) → drop most table ≡ drop lent table
       go (yes h) = let q : most ≡ lent = omega arith in rw q
       go (no h) = let q : most ≡ 128 = omega arith in
           rw q (drop_of_length-le table {i = 128} (omega arith) ∙ sym (drop_of_length-le table {i = lent} (omega arith)))
 
-  pub front-all : take 128 (take lent table) ≡ take most table
-  front-all = rw (← lent-front) (take_all 128 (take most table) (omega (arith, length-take most table)))
+  pub front_all : take 128 (take lent table) ≡ take most table
+  front_all = rw (← lent_front) (take_all 128 (take most table) (omega (arith, length-take most table)))
 
 -- behind the end
 beyond : (l : List Record) (i : ℕ) → length l ≤ i → get_or l i blank ≡ blank

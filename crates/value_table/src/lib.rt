@@ -1,8 +1,8 @@
 // The table of records for a program that keeps it by value: its first `lent` records, or all where it has fewer, are lent to a
 // call. The records of the outstanding segments are gathered from those, and put back.
 ghost use Rattle.std.specs.Prelude.{◌≡◌, ◌≤◌, ◌<◌, ◌%◌, min, take, drop, get_or, set};
-ghost use Rattle.records.specs.Tables.{blank, slotsIn, gathered, padded, scattered};
-ghost use Rattle.record_words.specs.RecordWords.{recordsIn};
+ghost use Rattle.records.specs.Tables.{blank, slots_in, gathered, padded, scattered};
+ghost use Rattle.record_words.specs.RecordWords.{records_in};
 
 use timing::Record;
 
@@ -58,7 +58,7 @@ fn replace(table: [Record; 128], most: usize, slot: usize, updated: Record) -> [
 
 // The records at the slots of the first n words, in their order, and blank ones up to 32.
 pub fn gather(table: [Record; 128], lent: usize, words: [u32; 32], n: usize) -> [u32; 128]
-    ensures { recordsIn result ≡ padded (gathered (take 128 (take lent table)) (slotsIn words n)) }
+    ensures { records_in result ≡ padded (gathered (take 128 (take lent table)) (slots_in words n)) }
 {
     let count = within(n);
     let most = lent_count(lent);
@@ -81,7 +81,7 @@ pub fn scatter(
     n: usize,
     records: [u32; 128],
 ) -> [Record; 128]
-    ensures { (take lent result ≡ scattered (take lent table) (slotsIn words n) (recordsIn records))
+    ensures { (take lent result ≡ scattered (take lent table) (slots_in words n) (records_in records))
         × (drop lent result ≡ drop lent table) }
 {
     let count = within(n);

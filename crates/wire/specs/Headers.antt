@@ -3,7 +3,7 @@
 use Rattle.std.specs.Prelude.{◌≡◌, Bool, true, false, cond, List, ◌++◌, ℕ, ◌+◌, ◌^◌, ◌<◌, leb, length}
 use Rattle.std.proofs.lemmas.List.Edits.{sets}
 use Rattle.wire.specs.LittleEndian.{bytes_of, number_at}
-use Rattle.protocol.specs.Protocol.{headerSize}
+use Rattle.protocol.specs.Protocol.{header_size}
 use Rattle.wire.specs.declared.Header.{Header}
 use Rattle.wire.specs.declared.Found.{Found}
 use Rattle.wire.specs.declared.Found.TheVariants.{Whole, Short}
@@ -36,7 +36,7 @@ decode s i =
 
 -- what stands at index i of s
 unfoldable pub header_at : List ℕ → ℕ → Found
-header_at s i = cond (leb (i + headerSize) (length s)) (Whole (decode s i)) Short
+header_at s i = cond (leb (i + header_size) (length s)) (Whole (decode s i)) Short
 
 -- each field fits its bytes
 pub record FieldsFit (h : Header) : Type 0 where
@@ -52,5 +52,5 @@ pub record FieldsFit (h : Header) : Type 0 where
 -- writing h at index i of `was`: whether there was room, and what stands there now. The 24 bytes from i on are the
 -- header's, every other byte stays; without room all stay.
 pub record Wrote (was : List ℕ) (i : ℕ) (h : Header) (ok : Bool) (is : List ℕ) : Type 0 where
-  pub room : ok ≡ leb (i + headerSize) (length was)
+  pub room : ok ≡ leb (i + header_size) (length was)
   pub bytes : is ≡ cond ok (sets was i (encode h)) was

@@ -5,42 +5,42 @@ use Rattle.std.proofs.Common.{ap, mul_assoc, add-zero, zero-add, suc-add, add-su
 use Rattle.std.proofs.Math.Nat.{pow-succ', pow-zero}
 use Rattle.wire.specs.LittleEndian.{bytes_of, number_at, AllBytes}
 
-pub length-bytesOf : (k n : ℕ) → length (bytes_of k n) ≡ k
+pub length_bytes_of : (k n : ℕ) → length (bytes_of k n) ≡ k
 unfolding bytes_of
-length-bytesOf zero n = refl
-length-bytesOf (suc k) n = ap suc (length-bytesOf k (n / 256))
+length_bytes_of zero n = refl
+length_bytes_of (suc k) n = ap suc (length_bytes_of k (n / 256))
 
-numberAt-cons : (k : ℕ) (b : ℕ) (s : List ℕ) (i : ℕ) → number_at k (b ∷ s) (suc i) ≡ number_at k s i
+number_at_cons : (k : ℕ) (b : ℕ) (s : List ℕ) (i : ℕ) → number_at k (b ∷ s) (suc i) ≡ number_at k s i
 unfolding number_at
-numberAt-cons zero b s i = refl
-numberAt-cons (suc k) b s i = rw (numberAt-cons k b s (suc i))
+number_at_cons zero b s i = refl
+number_at_cons (suc k) b s i = rw (number_at_cons k b s (suc i))
 
 -- what is read behind n elements, read from the whole
-pub numberAt-drop : (k n : ℕ) (s : List ℕ) (i : ℕ) → number_at k (drop n s) i ≡ number_at k s (n + i)
+pub number_at_drop : (k n : ℕ) (s : List ℕ) (i : ℕ) → number_at k (drop n s) i ≡ number_at k s (n + i)
 unfolding number_at
-numberAt-drop zero n s i = refl
-numberAt-drop (suc k) n s i = rw (get_or-drop, numberAt-drop k n s (suc i), add-suc)
+number_at_drop zero n s i = refl
+number_at_drop (suc k) n s i = rw (get_or-drop, number_at_drop k n s (suc i), add-suc)
 
 -- the low j bytes, and the k bytes above them
-pub numberAt-add : (j k : ℕ) (s : List ℕ) (i : ℕ) → number_at (j + k) s i ≡ number_at j s i + 256 ^ j * number_at k s (i + j)
+pub number_at_add : (j k : ℕ) (s : List ℕ) (i : ℕ) → number_at (j + k) s i ≡ number_at j s i + 256 ^ j * number_at k s (i + j)
 unfolding number_at
-numberAt-add zero k s i = simp (zero-add, add-zero, pow-zero, one-mul)
-numberAt-add (suc j) k s i = rw (suc-add, numberAt-add j k s (suc i), pow-succ', mul_assoc, add-suc, ← suc-add) (omega arith)
+number_at_add zero k s i = simp (zero-add, add-zero, pow-zero, one-mul)
+number_at_add (suc j) k s i = rw (suc-add, number_at_add j k s (suc i), pow-succ', mul_assoc, add-suc, ← suc-add) (omega arith)
 
 -- a number that fits in k bytes comes back
-pub number-of-bytes : (k n : ℕ) → n < 256 ^ k → number_at k (bytes_of k n) 0 ≡ n
+pub number_of_bytes : (k n : ℕ) → n < 256 ^ k → number_at k (bytes_of k n) 0 ≡ n
 unfolding bytes_of number_at
-number-of-bytes zero n h = omega arith
-number-of-bytes (suc k) n h =
+number_of_bytes zero n h = omega arith
+number_of_bytes (suc k) n h =
     let h' : n / 256 < 256 ^ k = omega (arith, pow-succ' 256 k) in
-    rw (numberAt-cons k (n % 256) (bytes_of k (n / 256)) 0, number-of-bytes k (n / 256) h') (omega arith)
+    rw (number_at_cons k (n % 256) (bytes_of k (n / 256)) 0, number_of_bytes k (n / 256) h') (omega arith)
 
 -- the k bytes come back
-pub bytes-of-number : (k : ℕ) (s : List ℕ) (i : ℕ) → AllBytes s → i + k ≤ length s → bytes_of k (number_at k s i) ≡ take k (drop i s)
+pub bytes_of_number : (k : ℕ) (s : List ℕ) (i : ℕ) → AllBytes s → i + k ≤ length s → bytes_of k (number_at k s i) ≡ take k (drop i s)
 unfolding bytes_of number_at
-bytes-of-number zero s i b h = refl
-bytes-of-number (suc k) s i b h =
+bytes_of_number zero s i b h = refl
+bytes_of_number (suc k) s i b h =
     let low : (get_or s i 0 + 256 * number_at k s (suc i)) % 256 ≡ get_or s i 0 = omega (arith, b i) in
     let high : (get_or s i 0 + 256 * number_at k s (suc i)) / 256 ≡ number_at k s (suc i) = omega (arith, b i) in
     let inside : i < length s = omega arith in
-    rw (low, high, drop-cons s i 0, bytes-of-number k s (suc i) b (omega arith))
+    rw (low, high, drop-cons s i 0, bytes_of_number k s (suc i) b (omega arith))

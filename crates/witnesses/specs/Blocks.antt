@@ -12,7 +12,7 @@ use Rattle.session.specs.Reading.{Reads}
 use Rattle.control.specs.declared.Link.{Link}
 use Rattle.promises.specs.Promises.{table_of}
 use Rattle.demands.specs.Steps.{Endpoint}
-use Rattle.demands.specs.Relations.{acksAfter}
+use Rattle.demands.specs.Relations.{acks_after}
 
 abbrev flag : Bool → ℕ
 flag b = cond b 1 0
@@ -31,7 +31,7 @@ link_of s =
       flight = record {
         una = sending.una;
         next = sending.next;
-        rtt = sending.roundTrip;
+        rtt = sending.round_trip;
         window = sending.window;
         congestion = s.congestion;
         queued = length sending.queued;
@@ -62,40 +62,40 @@ link_of s =
 
 -- ---- what each call leaves
 
-abbrev pub afterSend : Endpoint → Outcome Sends → Endpoint
-afterSend e (refused r) = e
-afterSend e (done x) =
+abbrev pub after_send : Endpoint → Outcome Sends → Endpoint
+after_send e (refused r) = e
+after_send e (done x) =
     record {
       link = link_of x.state;
-      parts = record { sendPool = x.pool; receivePool = e.parts.receivePool; table = e.parts.table; acks = e.parts.acks };
+      parts = record { send_pool = x.pool; receive_pool = e.parts.receive_pool; table = e.parts.table; acks = e.parts.acks };
     }
 
-abbrev pub afterInput : Endpoint → Outcome Took → Endpoint
-afterInput e (refused r) = e
-afterInput e (done x) =
+abbrev pub after_input : Endpoint → Outcome Took → Endpoint
+after_input e (refused r) = e
+after_input e (done x) =
     record {
       link = link_of x.state;
       parts = record {
-        sendPool = e.parts.sendPool;
-        receivePool = x.pool;
+        send_pool = e.parts.send_pool;
+        receive_pool = x.pool;
         table = table_of e.parts.table x.state;
-        acks = acksAfter (done x) e.parts.acks;
+        acks = acks_after (done x) e.parts.acks;
       };
     }
 
-abbrev pub afterFlush : Endpoint → Outcome Flushed → Endpoint
-afterFlush e (refused r) = e
-afterFlush e (done x) =
+abbrev pub after_flush : Endpoint → Outcome Flushed → Endpoint
+after_flush e (refused r) = e
+after_flush e (done x) =
     record {
       link = link_of x.state;
       parts = record {
-        sendPool = e.parts.sendPool;
-        receivePool = e.parts.receivePool;
+        send_pool = e.parts.send_pool;
+        receive_pool = e.parts.receive_pool;
         table = table_of e.parts.table x.state;
         acks = e.parts.acks;
       };
     }
 
-abbrev pub afterReading : Endpoint → Outcome Reads → Endpoint
-afterReading e (refused r) = e
-afterReading e (done x) = record { link = link_of x.state; parts = e.parts }
+abbrev pub after_reading : Endpoint → Outcome Reads → Endpoint
+after_reading e (refused r) = e
+after_reading e (done x) = record { link = link_of x.state; parts = e.parts }

@@ -4,48 +4,48 @@
 use Rattle.std.specs.Prelude.{refl, List, [], ◌∷◌, ℕ, replicate}
 use Rattle.std.proofs.Common.{arith}
 use Rattle.std.proofs.lemmas.List.Edits.{sets}
-use Rattle.protocol.specs.Protocol.{outputLeast, lengthsLeast}
-use Rattle.protocol.specs.Serial.{signed, isBefore, isAfter, isDue}
+use Rattle.protocol.specs.Protocol.{output_least, lengths_least}
+use Rattle.protocol.specs.Serial.{signed, is_before, is_after, is_due}
 use Rattle.wire.specs.LittleEndian.{bytes_of}
 use Rattle.wire.specs.Headers.{encode, front, back}
-use Rattle.timing.specs.Probes.{longerWait, nextClock}
-use Rattle.timing.specs.RoundTrips.{leastTimeout}
-use Rattle.retransmission.specs.Transmissions.{firstDue, growth, longerTimeout, isSkipped, transmission}
+use Rattle.timing.specs.Probes.{longer_wait, next_clock}
+use Rattle.timing.specs.RoundTrips.{least_timeout}
+use Rattle.retransmission.specs.Transmissions.{first_due, growth, longer_timeout, is_skipped, transmission}
 use Rattle.lists.specs.Joining as joining
 use Rattle.lists.specs.Orders.{ascending}
-use Rattle.lists.specs.Receiving.{startsAt}
-use Rattle.lists.specs.Acknowledging.{firstNumberOr}
-use Rattle.sizes.specs.Sizes.{enough, enoughToFlush}
+use Rattle.lists.specs.Receiving.{starts_at}
+use Rattle.lists.specs.Acknowledging.{first_number_or}
+use Rattle.sizes.specs.Sizes.{enough, enough_to_flush}
 use Rattle.schedule.specs.Schedules as scheduling
-use Rattle.schedule.specs.Schedules.{isAstray, corrected, started, following, ahead, earliest, named}
+use Rattle.schedule.specs.Schedules.{is_astray, corrected, started, following, ahead, earliest, named}
 use Rattle.congestion.specs.Congestions as congestion
 use Rattle.congestion.specs.Congestions.{
-  usedWindow,
-  slowStart,
+  used_window,
+  slow_start,
   raised,
   widened,
   avoidance,
   limited,
   grown,
-  afterDatagram,
+  after_datagram,
   halved,
-  bySkips,
-  byTimeout,
-  atLeastOne,
+  by_skips,
+  by_timeout,
+  at_least_one,
   fits,
 }
-use Rattle.session.specs.Slots.{occurs, lowestFrom, lowestFree}
-use Rattle.session.specs.Valid.{numbersFit, waitingFits, settled, sendingValid, receivingValid, valid}
-use Rattle.session.specs.Cutting.{fragmentCount, segmentCount, pieces, cutAs}
+use Rattle.session.specs.Slots.{occurs, lowest_from, lowest_free}
+use Rattle.session.specs.Valid.{numbers_fit, waiting_fits, settled, sending_valid, receiving_valid, valid}
+use Rattle.session.specs.Cutting.{fragment_count, segment_count, pieces, cut_as}
 use Rattle.session.specs.Sending.{place, filled, sending}
 use Rattle.session.specs.Flushing.{
   numbered,
-  numberedCount,
-  withNumbered,
+  numbered_count,
+  with_numbered,
   transmitted,
   written,
-  bytesOfSegments,
-  packOne,
+  bytes_of_segments,
+  pack_one,
   packed,
   flushing,
 }
@@ -53,22 +53,22 @@ use Rattle.session.specs.Updating.{updating, checking}
 use Rattle.session.specs.Opening.{opened, opening}
 use Rattle.session.specs.Calls.{Call, Reply, Event}
 use Rattle.words.specs.Words.{paired}
-use Rattle.control.specs.Views.{pairs, state_of, countsFit, blockValid}
+use Rattle.control.specs.Views.{pairs, state_of, counts_fit, block_valid}
 use Rattle.records.specs.Tables.{blank, scattered}
-use Rattle.packing.specs.Packers.{joined, lengthsOf}
+use Rattle.packing.specs.Packers.{joined, lengths_of}
 use Rattle.answers.specs.declared.Update.{Update}
 use Rattle.answers.specs.declared.Update.TheVariants as update
 use Rattle.answers.specs.declared.Time.TheVariants as time
-use Rattle.promises.specs.Parts.{FlushParts, flushPartsOf}
-use Rattle.promises.specs.Outcomes.{sendsWith, updatesWith, checksWith}
+use Rattle.promises.specs.Parts.{FlushParts, flush_parts_of}
+use Rattle.promises.specs.Outcomes.{sends_with, updates_with, checks_with}
 use Rattle.promises.specs.Promises.{UpdatePromise, CheckPromise}
-use Rattle.demands.specs.Steps.{Endpoint, cutBy, Called, start, next, SinceOpening}
+use Rattle.demands.specs.Steps.{Endpoint, cut_by, Called, start, next, SinceOpening}
 use Rattle.demands.specs.Quiet as quiet
 use Rattle.demands.specs.Quiet.{StaysQuiet, NoSooner}
-use Rattle.demands.specs.QuietLaws.{stays-quiet, no-sooner, fits-since}
-use Rattle.witnesses.specs.Blocks.{link_of, afterSend}
-use Rattle.witnesses.specs.OfStations.{bytes-by, c}
-use Rattle.witnesses.specs.OfEndpoints.{parts, fresh, sent, datagram, opens-fresh, sends-it}
+use Rattle.demands.specs.QuietLaws.{stays_quiet, no_sooner, fits_since}
+use Rattle.witnesses.specs.Blocks.{link_of, after_send}
+use Rattle.witnesses.specs.OfStations.{bytes_by, c}
+use Rattle.witnesses.specs.OfEndpoints.{parts, fresh, sent, datagram, opens_fresh, sends_it}
 
 -- ---- the endpoints
 
@@ -97,8 +97,8 @@ at current =
         waiting_numbers = [];
       };
       parts = record {
-        sendPool = sets (replicate 3328 0) 0 (104 ∷ 105 ∷ []);
-        receivePool = replicate 6656 0;
+        send_pool = sets (replicate 3328 0) 0 (104 ∷ 105 ∷ []);
+        receive_pool = replicate 6656 0;
         table = record { number = 0; due = 232; timeout = 200; skips = 0 } ∷ replicate 127 blank;
         acks = replicate 512 0;
       };
@@ -110,34 +110,34 @@ updated = at 7
 unfoldable pub rested : Endpoint
 rested = at 106
 
-unfoldable pub rested-again : Endpoint
-rested-again = at 20
+unfoldable pub rested_again : Endpoint
+rested_again = at 20
 
-abbrev blank-parts : FlushParts
-blank-parts = flushPartsOf (replicate outputLeast 0) (replicate lengthsLeast 0)
+abbrev blank_parts : FlushParts
+blank_parts = flush_parts_of (replicate output_least 0) (replicate lengths_least 0)
 
 -- ---- each call keeps its promise
 
-pub updates-it : Called sent (Call.update 7) (Reply.wrote (datagram ∷ [])) updated
-unfolding usedWindow slowStart raised widened avoidance limited grown afterDatagram halved bySkips byTimeout atLeastOne fits
-    congestion.afterFlush sent fresh updated datagram parts opened opening countsFit state_of pairs joining.joined blockValid scattered
-    joined lengthsOf cutBy sendsWith updatesWith checksWith scheduling.updated corrected started following isAstray ahead earliest named
-    updating checking signed isBefore isAfter isDue front back encode bytes_of longerWait nextClock leastTimeout firstDue growth
-    longerTimeout isSkipped transmission firstNumberOr startsAt ascending enough enoughToFlush fragmentCount segmentCount pieces cutAs
-    filled numbered numberedCount withNumbered transmitted written bytesOfSegments packOne packed flushing place sending occurs
-    lowestFrom lowestFree numbersFit waitingFits settled sendingValid receivingValid valid paired
-updates-it = record {
-  lent = blank-parts;
+pub updates_it : Called sent (Call.update 7) (Reply.wrote (datagram ∷ [])) updated
+unfolding used_window slow_start raised widened avoidance limited grown after_datagram halved by_skips by_timeout at_least_one fits
+    congestion.after_flush sent fresh updated datagram parts opened opening counts_fit state_of pairs joining.joined block_valid scattered
+    joined lengths_of cut_by sends_with updates_with checks_with scheduling.updated corrected started following is_astray ahead earliest named
+    updating checking signed is_before is_after is_due front back encode bytes_of longer_wait next_clock least_timeout first_due growth
+    longer_timeout is_skipped transmission first_number_or starts_at ascending enough enough_to_flush fragment_count segment_count pieces cut_as
+    filled numbered numbered_count with_numbered transmitted written bytes_of_segments pack_one packed flushing place sending occurs
+    lowest_from lowest_free numbers_fit waiting_fits settled sending_valid receiving_valid valid paired
+updates_it = record {
+  lent = blank_parts;
   room = record { long = omega arith; many = omega arith };
   gives = update.Wrote 1;
-  after = flushPartsOf (sets blank-parts.output 0 datagram) (sets blank-parts.lengths 0 (26 ∷ []));
+  after = flush_parts_of (sets blank_parts.output 0 datagram) (sets blank_parts.lengths 0 (26 ∷ []));
   promise = record {
     answer = refl;
     number = refl;
     leaves = record {
       stands = record { counts = refl; state = refl };
-      sendPool = refl;
-      receivePool = refl;
+      send_pool = refl;
+      receive_pool = refl;
       table = refl;
       acks = refl;
       output = record { bytes = refl; sizes = refl; number = refl };
@@ -146,65 +146,65 @@ updates-it = record {
   sees = refl;
 }
 
-pub checks-it : CheckPromise 8 updated.link updated.parts (time.At 107)
-unfolding usedWindow slowStart raised widened avoidance limited grown afterDatagram halved bySkips byTimeout atLeastOne fits
-    congestion.afterFlush updated rested rested-again countsFit state_of pairs joining.joined blockValid updatesWith checksWith
-    scheduling.updated corrected started following isAstray ahead earliest named updating checking signed isBefore isAfter isDue
-    leastTimeout firstNumberOr startsAt ascending enough enoughToFlush occurs numbersFit waitingFits settled sendingValid receivingValid
+pub checks_it : CheckPromise 8 updated.link updated.parts (time.At 107)
+unfolding used_window slow_start raised widened avoidance limited grown after_datagram halved by_skips by_timeout at_least_one fits
+    congestion.after_flush updated rested rested_again counts_fit state_of pairs joining.joined block_valid updates_with checks_with
+    scheduling.updated corrected started following is_astray ahead earliest named updating checking signed is_before is_after is_due
+    least_timeout first_number_or starts_at ascending enough enough_to_flush occurs numbers_fit waiting_fits settled sending_valid receiving_valid
     valid paired
-checks-it = record { answer = refl; number = refl }
+checks_it = record { answer = refl; number = refl }
 
-pub waits : UpdatePromise 106 updated.link updated.parts blank-parts update.Waited rested.link rested.parts blank-parts
-unfolding usedWindow slowStart raised widened avoidance limited grown afterDatagram halved bySkips byTimeout atLeastOne fits
-    congestion.afterFlush updated rested rested-again countsFit state_of pairs joining.joined blockValid updatesWith checksWith
-    scheduling.updated corrected started following isAstray ahead earliest named updating checking signed isBefore isAfter isDue
-    leastTimeout firstNumberOr startsAt ascending enough enoughToFlush occurs numbersFit waitingFits settled sendingValid receivingValid
+pub waits : UpdatePromise 106 updated.link updated.parts blank_parts update.Waited rested.link rested.parts blank_parts
+unfolding used_window slow_start raised widened avoidance limited grown after_datagram halved by_skips by_timeout at_least_one fits
+    congestion.after_flush updated rested rested_again counts_fit state_of pairs joining.joined block_valid updates_with checks_with
+    scheduling.updated corrected started following is_astray ahead earliest named updating checking signed is_before is_after is_due
+    least_timeout first_number_or starts_at ascending enough enough_to_flush occurs numbers_fit waiting_fits settled sending_valid receiving_valid
     valid paired
 waits =
     record {
       answer = refl;
       number = refl;
-      leaves = record { stands = record { counts = refl; state = refl }; parts = refl; flushParts = refl };
+      leaves = record { stands = record { counts = refl; state = refl }; parts = refl; flush_parts = refl };
     }
 
-pub waits-again : UpdatePromise 20 rested.link rested.parts blank-parts update.Waited
-    rested-again.link rested-again.parts blank-parts
-unfolding usedWindow slowStart raised widened avoidance limited grown afterDatagram halved bySkips byTimeout atLeastOne fits
-    congestion.afterFlush updated rested rested-again countsFit state_of pairs joining.joined blockValid updatesWith checksWith
-    scheduling.updated corrected started following isAstray ahead earliest named updating checking signed isBefore isAfter isDue
-    leastTimeout firstNumberOr startsAt ascending enough enoughToFlush occurs numbersFit waitingFits settled sendingValid receivingValid
+pub waits_again : UpdatePromise 20 rested.link rested.parts blank_parts update.Waited
+    rested_again.link rested_again.parts blank_parts
+unfolding used_window slow_start raised widened avoidance limited grown after_datagram halved by_skips by_timeout at_least_one fits
+    congestion.after_flush updated rested rested_again counts_fit state_of pairs joining.joined block_valid updates_with checks_with
+    scheduling.updated corrected started following is_astray ahead earliest named updating checking signed is_before is_after is_due
+    least_timeout first_number_or starts_at ascending enough enough_to_flush occurs numbers_fit waiting_fits settled sending_valid receiving_valid
     valid paired
-waits-again =
+waits_again =
     record {
       answer = refl;
       number = refl;
-      leaves = record { stands = record { counts = refl; state = refl }; parts = refl; flushParts = refl };
+      leaves = record { stands = record { counts = refl; state = refl }; parts = refl; flush_parts = refl };
     }
 
 -- ---- since opening
 
-sender-runs : SinceOpening c (Call.send (104 ∷ 105 ∷ []) ∷ Call.update 7 ∷ [])
+sender_runs : SinceOpening c (Call.send (104 ∷ 105 ∷ []) ∷ Call.update 7 ∷ [])
     (record { call = Call.send (104 ∷ 105 ∷ []); answer = Reply.accepted }
     ∷ record { call = Call.update 7; answer = Reply.wrote (datagram ∷ []) }
     ∷ []) updated
-sender-runs = record {
+sender_runs = record {
   first = fresh;
-  opens = opens-fresh;
-  runs = next fresh (Call.send (104 ∷ 105 ∷ [])) Reply.accepted sent sends-it
-      (next sent (Call.update 7) (Reply.wrote (datagram ∷ [])) updated updates-it start);
+  opens = opens_fresh;
+  runs = next fresh (Call.send (104 ∷ 105 ∷ [])) Reply.accepted sent sends_it
+      (next sent (Call.update 7) (Reply.wrote (datagram ∷ [])) updated updates_it start);
   conv = omega arith;
-  fits = (bytes-by (104 ∷ 105 ∷ []) refl, (omega arith, tt));
+  fits = (bytes_by (104 ∷ 105 ∷ []) refl, (omega arith, tt));
 }
 
 -- the theorem says something of them
-pub holds : StaysQuiet 8 107 updated (update.Waited ∷ update.Waited ∷ []) rested-again
+pub holds : StaysQuiet 8 107 updated (update.Waited ∷ update.Waited ∷ []) rested_again
 holds =
-    stays-quiet updated 8 107 (fits-since sender-runs) (omega arith) checks-it (106 ∷ 20 ∷ [])
-    (update.Waited ∷ update.Waited ∷ []) rested-again
+    stays_quiet updated 8 107 (fits_since sender_runs) (omega arith) checks_it (106 ∷ 20 ∷ [])
+    (update.Waited ∷ update.Waited ∷ []) rested_again
     (record { fits = omega arith; before = omega arith }, (record { fits = omega arith; before = omega arith }, tt))
-    (quiet.next updated 106 update.Waited rested blank-parts blank-parts waits
-    (quiet.next rested 20 update.Waited rested-again blank-parts blank-parts waits-again quiet.start))
+    (quiet.next updated 106 update.Waited rested blank_parts blank_parts waits
+    (quiet.next rested 20 update.Waited rested_again blank_parts blank_parts waits_again quiet.start))
 
 -- and the named time is less than an interval away, so it is wanted
 pub wanted : NoSooner 8 107 updated
-wanted = no-sooner updated 8 107 (fits-since sender-runs) (omega arith) checks-it
+wanted = no_sooner updated 8 107 (fits_since sender_runs) (omega arith) checks_it

@@ -4,87 +4,87 @@
 use Rattle.std.specs.Prelude.{◌≡◌, refl, Bool, true, ◌&&◌, List, [], ◌∷◌, map, ℕ, zero, suc, ltb, length, get_or, replicate}
 use mathlib.Core.List.Memᴰ
 use Rattle.std.proofs.Common.{arith, ltb-true}
-use Rattle.protocol.specs.Protocol.{outputLeast, lengthsLeast}
+use Rattle.protocol.specs.Protocol.{output_least, lengths_least}
 use Rattle.protocol.specs.declared.Settings.{Settings}
 use Rattle.protocol.specs.declared.Refusal.TheVariants.{NoMessage}
-use Rattle.protocol.specs.Serial.{signed, isBefore, isAfter, isDue}
+use Rattle.protocol.specs.Serial.{signed, is_before, is_after, is_due}
 use Rattle.wire.specs.LittleEndian.{AllBytes, bytes_of, number_at}
 use Rattle.wire.specs.Headers.{encode, front, back, decode}
-use Rattle.datagram.specs.Datagrams.{parse, walk, tail, verdict, segmentOf}
-use Rattle.timing.specs.Probes.{longerWait, nextClock}
-use Rattle.timing.specs.RoundTrips.{nextSmoothed, nextVariation, leastTimeout, timeoutOf, sampled}
-use Rattle.retransmission.specs.Transmissions.{firstDue, growth, longerTimeout, isSkipped, transmission}
+use Rattle.datagram.specs.Datagrams.{parse, walk, tail, verdict, segment_of}
+use Rattle.timing.specs.Probes.{longer_wait, next_clock}
+use Rattle.timing.specs.RoundTrips.{next_smoothed, next_variation, least_timeout, timeout_of, sampled}
+use Rattle.retransmission.specs.Transmissions.{first_due, growth, longer_timeout, is_skipped, transmission}
 use Rattle.lists.specs.Orders.{insert, is_held, ascending}
-use Rattle.lists.specs.Receiving.{advance, startsAt}
-use Rattle.lists.specs.Acknowledging.{select, firstNumberOr, skipBefore}
-use Rattle.sizes.specs.Sizes.{enough, enoughToFlush}
+use Rattle.lists.specs.Receiving.{advance, starts_at}
+use Rattle.lists.specs.Acknowledging.{select, first_number_or, skip_before}
+use Rattle.sizes.specs.Sizes.{enough, enough_to_flush}
 use Rattle.congestion.specs.Congestions as congestion
 use Rattle.congestion.specs.Congestions.{
-  usedWindow,
-  slowStart,
+  used_window,
+  slow_start,
   raised,
   widened,
   avoidance,
   limited,
   grown,
-  afterDatagram,
+  after_datagram,
   halved,
-  bySkips,
-  byTimeout,
-  atLeastOne,
+  by_skips,
+  by_timeout,
+  at_least_one,
   fits,
 }
-use Rattle.session.specs.Slots.{occurs, lowestFrom, lowestFree}
-use Rattle.session.specs.Valid.{numbersFit, waitingFits, settled, sendingValid, receivingValid, valid}
-use Rattle.session.specs.Cutting.{fragmentCount, segmentCount, pieces, cutAs}
+use Rattle.session.specs.Slots.{occurs, lowest_from, lowest_free}
+use Rattle.session.specs.Valid.{numbers_fit, waiting_fits, settled, sending_valid, receiving_valid, valid}
+use Rattle.session.specs.Cutting.{fragment_count, segment_count, pieces, cut_as}
 use Rattle.session.specs.Sending.{place, filled, sending}
 use Rattle.session.specs.Flushing.{
   numbered,
-  numberedCount,
-  withNumbered,
+  numbered_count,
+  with_numbered,
   transmitted,
   written,
-  bytesOfSegments,
-  packOne,
+  bytes_of_segments,
+  pack_one,
   packed,
   flushing,
 }
 use Rattle.session.specs.Input.{
   acknowledged,
-  sampledBy,
-  heardBySending,
+  sampled_by,
+  heard_by_sending,
   pushed,
-  heardByReceiving,
-  allBySending,
-  allByReceiving,
-  ackNumbers,
+  heard_by_receiving,
+  all_by_sending,
+  all_by_receiving,
+  ack_numbers,
   furthest,
   skipped,
   applied,
   input,
 }
-use Rattle.session.specs.Reading.{joinedIn, message, length_of, messageSize, afterRead, reading}
+use Rattle.session.specs.Reading.{joined_in, message, length_of, message_size, after_read, reading}
 use Rattle.session.specs.Opening.{opened}
-use Rattle.session.specs.Calls.{Station, Call, Reply, step, history, after, acceptedList, datagramsBy, readAnswers}
+use Rattle.session.specs.Calls.{Station, Call, Reply, step, history, after, accepted_list, datagrams_by, read_answers}
 use Rattle.session.specs.Decides.{All, and_parts}
-use Rattle.delivery.specs.Accepted.{acceptedFor}
-use Rattle.delivery.specs.PlainReceiver.{pushNumbers, pushesIn}
+use Rattle.delivery.specs.Accepted.{accepted_for}
+use Rattle.delivery.specs.PlainReceiver.{push_numbers, pushes_in}
 use Rattle.delivery.specs.Hearing.{CallFits, FewPushes, FedWith, HearsMore}
 use Rattle.delivery.specs.Claims.{Delivered}
 use Rattle.delivery.specs.Stations.{Opened, observed}
-use Rattle.delivery.specs.Demand3.{station-demand-3}
+use Rattle.delivery.specs.Demand3.{station_demand_3}
 
 -- ---- bytes, by a test
 
-abbrev pub byteTest : List ℕ → Bool
-byteTest [] = true
-byteTest (x ∷ l) = ltb x 256 && byteTest l
+abbrev pub byte_test : List ℕ → Bool
+byte_test [] = true
+byte_test (x ∷ l) = ltb x 256 && byte_test l
 
-pub bytes-by : (l : List ℕ) → byteTest l ≡ true → AllBytes l
-bytes-by [] e zero = omega arith
-bytes-by [] e (suc i) = omega arith
-bytes-by (x ∷ l) e zero = let a = and_parts (ltb x 256) (byteTest l) e in omega (arith, ltb-true x 256 a.0)
-bytes-by (x ∷ l) e (suc i) = bytes-by l (and_parts (ltb x 256) (byteTest l) e).1 i
+pub bytes_by : (l : List ℕ) → byte_test l ≡ true → AllBytes l
+bytes_by [] e zero = omega arith
+bytes_by [] e (suc i) = omega arith
+bytes_by (x ∷ l) e zero = let a = and_parts (ltb x 256) (byte_test l) e in omega (arith, ltb-true x 256 a.0)
+bytes_by (x ∷ l) e (suc i) = bytes_by l (and_parts (ltb x 256) (byte_test l) e).1 i
 
 -- ---- the three
 
@@ -94,9 +94,9 @@ c = record { conv = 1; mtu = 50; mode = 0; interval = 100; threshold = 2; stream
 unfoldable pub station : Station
 station = record {
   state = opened c;
-  sendPool = replicate 3328 0;
-  receivePool = replicate 6656 0;
-  lent = record { table = 128; ackList = 512; output = outputLeast; lengths = lengthsLeast };
+  send_pool = replicate 3328 0;
+  receive_pool = replicate 6656 0;
+  lent = record { table = 128; ack_list = 512; output = output_least; lengths = lengths_least };
 }
 
 -- a message of two segments, one that is refused, and one of one segment; a flush after the first, and one when its segments are due again
@@ -104,78 +104,78 @@ unfoldable pub calls : List Call
 calls = Call.send (replicate 27 7) ∷ Call.flush 5 ∷ Call.send (replicate 3303 1) ∷ Call.send (9 ∷ []) ∷ Call.flush 300 ∷ []
 
 unfoldable pub wrote : List (List ℕ)
-wrote = datagramsBy (history station calls)
+wrote = datagrams_by (history station calls)
 
 -- the last datagram alone: the second segment again, and the second message
 unfoldable pub firsts : List Call
-firsts = Call.takeIn (get_or wrote 3 []) ∷ Call.flush 9 ∷ Call.read 100 ∷ Call.read 20 ∷ []
+firsts = Call.take_in (get_or wrote 3 []) ∷ Call.flush 9 ∷ Call.read 100 ∷ Call.read 20 ∷ []
 
 -- the first datagram too, late and twice
 unfoldable pub seconds : List Call
 seconds =
-    Call.takeIn (get_or wrote 3 [])
+    Call.take_in (get_or wrote 3 [])
     ∷ Call.send (1 ∷ [])
-    ∷ Call.takeIn (get_or wrote 0 [])
-    ∷ Call.takeIn (get_or wrote 0 [])
+    ∷ Call.take_in (get_or wrote 0 [])
+    ∷ Call.take_in (get_or wrote 0 [])
     ∷ Call.read 100
     ∷ Call.read 20
     ∷ []
 
 more : HearsMore firsts seconds
 unfolding firsts seconds
-more = HearsMore.both-take (HearsMore.second-sends
-    (HearsMore.takes-more (HearsMore.takes-more (HearsMore.first-flushes (HearsMore.both_read (HearsMore.both_read HearsMore.start))))))
+more = HearsMore.both_take (HearsMore.second_sends
+    (HearsMore.takes_more (HearsMore.takes_more (HearsMore.first_flushes (HearsMore.both_read (HearsMore.both_read HearsMore.start))))))
 
 -- ---- what is computed
 
 pub record Met : Type 0 where
   pub opens : Opened c station
   pub sizes : map (λ (d : List ℕ). length d) wrote ≡ 50 ∷ 25 ∷ 50 ∷ 50 ∷ []
-  pub few : FewPushes c (datagramsBy (history station calls))
-  pub fed-first : FedWith (datagramsBy (history station calls)) firsts
-  pub fed-second : FedWith (datagramsBy (history station calls)) seconds
+  pub few : FewPushes c (datagrams_by (history station calls))
+  pub fed_first : FedWith (datagrams_by (history station calls)) firsts
+  pub fed_second : FedWith (datagrams_by (history station calls)) seconds
   pub fits : All CallFits calls
-  pub fits-first : All CallFits firsts
-  pub fits-second : All CallFits seconds
-  pub first_reads : readAnswers (history station firsts) ≡ Reply.refused NoMessage ∷ Reply.refused NoMessage ∷ []
-  pub second_reads : readAnswers (history station seconds) ≡ Reply.message (replicate 27 7) ∷ Reply.message (9 ∷ []) ∷ []
+  pub fits_first_lem : All CallFits firsts
+  pub fits_second : All CallFits seconds
+  pub first_reads : read_answers (history station firsts) ≡ Reply.refused NoMessage ∷ Reply.refused NoMessage ∷ []
+  pub second_reads : read_answers (history station seconds) ≡ Reply.message (replicate 27 7) ∷ Reply.message (9 ∷ []) ∷ []
 
 pub met : Met
-unfolding usedWindow slowStart raised widened avoidance limited grown afterDatagram halved bySkips byTimeout atLeastOne fits
-    congestion.afterFlush firsts seconds wrote station calls pushNumbers pushesIn signed isBefore isAfter isDue front back encode decode
-    bytes_of number_at verdict segmentOf tail walk parse longerWait nextClock nextSmoothed nextVariation leastTimeout timeoutOf sampled
-    firstDue growth longerTimeout isSkipped transmission select firstNumberOr skipBefore advance startsAt insert is_held ascending enough
-    enoughToFlush step history after datagramsBy fragmentCount segmentCount pieces cutAs filled numbered numberedCount withNumbered
-    transmitted written bytesOfSegments packOne packed flushing acknowledged sampledBy heardBySending pushed heardByReceiving
-    allBySending allByReceiving ackNumbers furthest skipped applied input opened joinedIn message length_of messageSize afterRead reading
-    place sending occurs lowestFrom lowestFree numbersFit waitingFits settled sendingValid receivingValid valid
+unfolding used_window slow_start raised widened avoidance limited grown after_datagram halved by_skips by_timeout at_least_one fits
+    congestion.after_flush firsts seconds wrote station calls push_numbers pushes_in signed is_before is_after is_due front back encode decode
+    bytes_of number_at verdict segment_of tail walk parse longer_wait next_clock next_smoothed next_variation least_timeout timeout_of sampled
+    first_due growth longer_timeout is_skipped transmission select first_number_or skip_before advance starts_at insert is_held ascending enough
+    enough_to_flush step history after datagrams_by fragment_count segment_count pieces cut_as filled numbered numbered_count with_numbered
+    transmitted written bytes_of_segments pack_one packed flushing acknowledged sampled_by heard_by_sending pushed heard_by_receiving
+    all_by_sending all_by_receiving ack_numbers furthest skipped applied input opened joined_in message length_of message_size after_read reading
+    place sending occurs lowest_from lowest_free numbers_fit waiting_fits settled sending_valid receiving_valid valid
 met = record {
   opens = record { state = refl; long = refl };
   sizes = refl;
   few = omega arith;
-  fed-first = (Memᴰ.tail (Memᴰ.tail (Memᴰ.tail (Memᴰ.head refl))), tt);
-  fed-second = (
+  fed_first = (Memᴰ.tail (Memᴰ.tail (Memᴰ.tail (Memᴰ.head refl))), tt);
+  fed_second = (
     Memᴰ.tail (Memᴰ.tail (Memᴰ.tail (Memᴰ.head refl))),
     (Memᴰ.head refl, (Memᴰ.head refl, tt)),
   );
-  fits = (bytes-by (replicate 27 7) refl, (omega arith, (bytes-by (replicate 3303 1) refl, (bytes-by (9 ∷ []) refl, (omega arith, tt)))));
-  fits-first = (bytes-by (get_or wrote 3 []) refl, (omega arith, (tt, (tt, tt))));
-  fits-second = (
-    bytes-by (get_or wrote 3 []) refl,
-    (bytes-by (1 ∷ []) refl, (bytes-by (get_or wrote 0 []) refl, (bytes-by (get_or wrote 0 []) refl, (tt, (tt, tt))))),
+  fits = (bytes_by (replicate 27 7) refl, (omega arith, (bytes_by (replicate 3303 1) refl, (bytes_by (9 ∷ []) refl, (omega arith, tt)))));
+  fits_first_lem = (bytes_by (get_or wrote 3 []) refl, (omega arith, (tt, (tt, tt))));
+  fits_second = (
+    bytes_by (get_or wrote 3 []) refl,
+    (bytes_by (1 ∷ []) refl, (bytes_by (get_or wrote 0 []) refl, (bytes_by (get_or wrote 0 []) refl, (tt, (tt, tt))))),
   );
   first_reads = refl;
   second_reads = refl;
 }
 
 -- demand 3 says something of them
-pub holds : Delivered c (acceptedList (history station calls)) (observed station firsts) (observed station seconds)
-unfolding acceptedFor
+pub holds : Delivered c (accepted_list (history station calls)) (observed station firsts) (observed station seconds)
+unfolding accepted_for
 holds =
-    station-demand-3 c (record { range = refl; conv = omega arith }) station station station met.opens met.opens met.opens calls
-    firsts seconds met.fits met.fits-first
-    met.fits-second
+    station_demand_3 c (record { range = refl; conv = omega arith }) station station station met.opens met.opens met.opens calls
+    firsts seconds met.fits met.fits_first_lem
+    met.fits_second
     met.few
-    met.fed-first
-    met.fed-second
+    met.fed_first
+    met.fed_second
     more

@@ -7,61 +7,61 @@ use mathlib.Core.List.Memᴰ
 use Rattle.std.proofs.Common.{arith}
 use Rattle.std.proofs.lemmas.List.Edits.{sets}
 use Rattle.protocol.specs.declared.Refusal.TheVariants.{NoMessage}
-use Rattle.protocol.specs.Serial.{signed, isBefore, isAfter, isDue}
+use Rattle.protocol.specs.Serial.{signed, is_before, is_after, is_due}
 use Rattle.wire.specs.LittleEndian.{bytes_of, number_at}
 use Rattle.wire.specs.Headers.{encode, front, back, decode}
-use Rattle.datagram.specs.Datagrams.{parse, walk, tail, verdict, segmentOf}
-use Rattle.timing.specs.Probes.{longerWait, nextClock}
-use Rattle.timing.specs.RoundTrips.{nextSmoothed, nextVariation, leastTimeout, timeoutOf, sampled}
-use Rattle.retransmission.specs.Transmissions.{firstDue, growth, longerTimeout, isSkipped, transmission}
+use Rattle.datagram.specs.Datagrams.{parse, walk, tail, verdict, segment_of}
+use Rattle.timing.specs.Probes.{longer_wait, next_clock}
+use Rattle.timing.specs.RoundTrips.{next_smoothed, next_variation, least_timeout, timeout_of, sampled}
+use Rattle.retransmission.specs.Transmissions.{first_due, growth, longer_timeout, is_skipped, transmission}
 use Rattle.lists.specs.declared.Sent.{Sent}
 use Rattle.lists.specs.Joining as joining
 use Rattle.lists.specs.Orders.{insert, is_held, ascending}
-use Rattle.lists.specs.Receiving.{advance, startsAt}
-use Rattle.lists.specs.Acknowledging.{select, firstNumberOr, skipBefore}
-use Rattle.sizes.specs.Sizes.{enough, enoughToFlush}
-use Rattle.schedule.specs.Schedules.{updated, isAstray, corrected, started, following}
+use Rattle.lists.specs.Receiving.{advance, starts_at}
+use Rattle.lists.specs.Acknowledging.{select, first_number_or, skip_before}
+use Rattle.sizes.specs.Sizes.{enough, enough_to_flush}
+use Rattle.schedule.specs.Schedules.{updated, is_astray, corrected, started, following}
 use Rattle.congestion.specs.Congestions as congestion
 use Rattle.congestion.specs.Congestions.{
-  usedWindow,
-  slowStart,
+  used_window,
+  slow_start,
   raised,
   widened,
   avoidance,
   limited,
   grown,
-  afterDatagram,
+  after_datagram,
   halved,
-  bySkips,
-  byTimeout,
-  atLeastOne,
+  by_skips,
+  by_timeout,
+  at_least_one,
   fits,
 }
-use Rattle.session.specs.State.{withNumbers, afterFlushing, withSchedule}
-use Rattle.session.specs.Slots.{occurs, lowestFrom, lowestFree}
-use Rattle.session.specs.Valid.{numbersFit, waitingFits, settled, sendingValid, receivingValid, valid}
-use Rattle.session.specs.Cutting.{fragmentCount, segmentCount, pieces, cutAs}
+use Rattle.session.specs.State.{with_numbers, after_flushing, with_schedule}
+use Rattle.session.specs.Slots.{occurs, lowest_from, lowest_free}
+use Rattle.session.specs.Valid.{numbers_fit, waiting_fits, settled, sending_valid, receiving_valid, valid}
+use Rattle.session.specs.Cutting.{fragment_count, segment_count, pieces, cut_as}
 use Rattle.session.specs.Sending.{place, filled, sending}
 use Rattle.session.specs.Flushing.{
   numbered,
-  numberedCount,
-  withNumbered,
+  numbered_count,
+  with_numbered,
   transmitted,
   written,
-  bytesOfSegments,
-  packOne,
+  bytes_of_segments,
+  pack_one,
   packed,
   flushing,
 }
 use Rattle.session.specs.Input.{
   acknowledged,
-  sampledBy,
-  heardBySending,
+  sampled_by,
+  heard_by_sending,
   pushed,
-  heardByReceiving,
-  allBySending,
-  allByReceiving,
-  ackNumbers,
+  heard_by_receiving,
+  all_by_sending,
+  all_by_receiving,
+  ack_numbers,
   furthest,
   skipped,
   applied,
@@ -71,24 +71,24 @@ use Rattle.session.specs.Updating.{updating}
 use Rattle.session.specs.Opening.{opened}
 use Rattle.session.specs.Calls.{Call, Reply}
 use Rattle.words.specs.Words.{paired}
-use Rattle.control.specs.Views.{pairs, state_of, countsFit, blockValid}
+use Rattle.control.specs.Views.{pairs, state_of, counts_fit, block_valid}
 use Rattle.records.specs.Tables.{blank, scattered}
-use Rattle.packing.specs.Packers.{joined, lengthsOf}
+use Rattle.packing.specs.Packers.{joined, lengths_of}
 use Rattle.answers.specs.declared.Answer.TheVariants as answer
 use Rattle.answers.specs.declared.Count.TheVariants as count
 use Rattle.answers.specs.declared.Update.TheVariants as update
-use Rattle.promises.specs.Parts.{flushPartsOf}
-use Rattle.promises.specs.Outcomes.{sendsWith, takesInWith, flushesWith, updatesWith, takesIn, flushes}
-use Rattle.delivery.specs.PlainReceiver.{pushNumbers, pushesIn}
-use Rattle.demands.specs.Steps.{Endpoint, cutBy, Called, start, next}
-use Rattle.demands.specs.Claims.{fragmentsAccepted}
-use Rattle.demands.specs.Relations.{entriesOf}
+use Rattle.promises.specs.Parts.{flush_parts_of}
+use Rattle.promises.specs.Outcomes.{sends_with, takes_in_with, flushes_with, updates_with, takes_in, flushes}
+use Rattle.delivery.specs.PlainReceiver.{push_numbers, pushes_in}
+use Rattle.demands.specs.Steps.{Endpoint, cut_by, Called, start, next}
+use Rattle.demands.specs.Claims.{fragments_accepted}
+use Rattle.demands.specs.Relations.{entries_of}
 use Rattle.progress.specs.TwoEnds.{
   Move,
-  atA,
+  at_a,
   at_b,
-  eventsOfA,
-  eventsOfB,
+  events_of_a,
+  events_of_b,
   MadeBy,
   HeardOnlyEachOther,
   FewSegments,
@@ -98,10 +98,10 @@ use Rattle.progress.specs.TwoEnds.{
   GoodRoundTrip,
   Passed,
 }
-use Rattle.progress.specs.RoundTrip.{one-good-round-trip}
-use Rattle.witnesses.specs.Blocks.{link_of, afterInput, afterFlush}
-use Rattle.witnesses.specs.OfStations.{bytes-by, c}
-use Rattle.witnesses.specs.OfEndpoints.{parts, fresh, sent, flushed, datagram, opens-fresh, sends-it, flushes-it, reads_nothing}
+use Rattle.progress.specs.RoundTrip.{one_good_round_trip}
+use Rattle.witnesses.specs.Blocks.{link_of, after_input, after_flush}
+use Rattle.witnesses.specs.OfStations.{bytes_by, c}
+use Rattle.witnesses.specs.OfEndpoints.{parts, fresh, sent, flushed, datagram, opens_fresh, sends_it, flushes_it, reads_nothing}
 
 -- ---- the datagrams: the push again, and its acknowledgement
 
@@ -127,12 +127,12 @@ resent =
     let s = opened c in
     record {
       link = link_of
-          (withSchedule (afterFlushing s (withNumbers s.sending 1 [] (segment ∷ [])) s.receiving s.probe 300
+          (with_schedule (after_flushing s (with_numbers s.sending 1 [] (segment ∷ [])) s.receiving s.probe 300
           (record { window = 1; threshold = 16; allowance = 26 }) false)
           (record { next = 400; made = true }));
       parts = record {
-        sendPool = sets (replicate 3328 0) 0 (104 ∷ 105 ∷ []);
-        receivePool = replicate 6656 0;
+        send_pool = sets (replicate 3328 0) 0 (104 ∷ 105 ∷ []);
+        receive_pool = replicate 6656 0;
         table = record { number = 0; due = 700; timeout = 400; skips = 0 } ∷ replicate 127 blank;
         acks = replicate 512 0;
       };
@@ -140,49 +140,49 @@ resent =
 
 -- the receiver hears it and flushes; the sender hears that
 unfoldable pub heard : Endpoint
-heard = afterInput fresh (takesIn fresh.link fresh.parts again)
+heard = after_input fresh (takes_in fresh.link fresh.parts again)
 
 unfoldable pub replied : Endpoint
-replied = afterFlush heard (flushes heard.link heard.parts (flushPartsOf (replicate 50992 0) (replicate 290 0)) 9)
+replied = after_flush heard (flushes heard.link heard.parts (flush_parts_of (replicate 50992 0) (replicate 290 0)) 9)
 
 unfoldable pub done : Endpoint
-done = afterInput resent (takesIn resent.link resent.parts acked)
+done = after_input resent (takes_in resent.link resent.parts acked)
 
 -- ---- each call keeps its promise
 
 record Met : Type 0 where
-  sends-again : Called flushed (Call.update 300) (Reply.wrote (again ∷ [])) resent
-  takes-it : Called fresh (Call.takeIn again) Reply.accepted heard
+  sends_again : Called flushed (Call.update 300) (Reply.wrote (again ∷ [])) resent
+  takes_it : Called fresh (Call.take_in again) Reply.accepted heard
   replies : Called heard (Call.flush 9) (Reply.wrote (acked ∷ [])) replied
-  takes-ack : Called resent (Call.takeIn acked) Reply.accepted done
+  takes_ack : Called resent (Call.take_in acked) Reply.accepted done
   out : GoesOut c flushed.link.flight.una (again ∷ [])
-  una-before : flushed.link.flight.una ≡ 0
-  una-after : done.link.flight.una ≡ 1
+  una_before : flushed.link.flight.una ≡ 0
+  una_after : done.link.flight.una ≡ 1
 
 met : Met
-unfolding usedWindow slowStart raised widened avoidance limited grown afterDatagram halved bySkips byTimeout atLeastOne fits
-    congestion.afterFlush again acked resent heard replied done sent flushed fresh datagram parts opened entriesOf countsFit state_of pairs
+unfolding used_window slow_start raised widened avoidance limited grown after_datagram halved by_skips by_timeout at_least_one fits
+    congestion.after_flush again acked resent heard replied done sent flushed fresh datagram parts opened entries_of counts_fit state_of pairs
     joining.joined
-    blockValid scattered joined lengthsOf cutBy sendsWith takesInWith flushesWith updatesWith updated isAstray corrected started following
-    updating signed isBefore isAfter isDue front back encode decode bytes_of number_at verdict segmentOf tail walk parse longerWait
-    nextClock nextSmoothed nextVariation leastTimeout timeoutOf sampled firstDue growth longerTimeout isSkipped transmission select
-    firstNumberOr skipBefore advance startsAt insert is_held ascending enough enoughToFlush pushesIn pushNumbers fragmentCount segmentCount
-    pieces cutAs filled numbered numberedCount withNumbered transmitted written bytesOfSegments packOne packed flushing acknowledged
-    sampledBy heardBySending pushed heardByReceiving allBySending allByReceiving ackNumbers furthest skipped applied input place sending
-    occurs lowestFrom lowestFree numbersFit waitingFits settled sendingValid receivingValid valid paired
+    block_valid scattered joined lengths_of cut_by sends_with takes_in_with flushes_with updates_with updated is_astray corrected started following
+    updating signed is_before is_after is_due front back encode decode bytes_of number_at verdict segment_of tail walk parse longer_wait
+    next_clock next_smoothed next_variation least_timeout timeout_of sampled first_due growth longer_timeout is_skipped transmission select
+    first_number_or skip_before advance starts_at insert is_held ascending enough enough_to_flush pushes_in push_numbers fragment_count segment_count
+    pieces cut_as filled numbered numbered_count with_numbered transmitted written bytes_of_segments pack_one packed flushing acknowledged
+    sampled_by heard_by_sending pushed heard_by_receiving all_by_sending all_by_receiving ack_numbers furthest skipped applied input place sending
+    occurs lowest_from lowest_free numbers_fit waiting_fits settled sending_valid receiving_valid valid paired
 met = record {
-  sends-again = record {
-    lent = flushPartsOf (replicate 50992 0) (replicate 290 0);
+  sends_again = record {
+    lent = flush_parts_of (replicate 50992 0) (replicate 290 0);
     room = record { long = omega arith; many = omega arith };
     gives = update.Wrote 1;
-    after = flushPartsOf (sets (replicate 50992 0) 0 again) (sets (replicate 290 0) 0 (26 ∷ []));
+    after = flush_parts_of (sets (replicate 50992 0) 0 again) (sets (replicate 290 0) 0 (26 ∷ []));
     promise = record {
       answer = refl;
       number = refl;
       leaves = record {
         stands = record { counts = refl; state = refl };
-        sendPool = refl;
-        receivePool = refl;
+        send_pool = refl;
+        receive_pool = refl;
         table = refl;
         acks = refl;
         output = record { bytes = refl; sizes = refl; number = refl };
@@ -190,34 +190,34 @@ met = record {
     };
     sees = refl;
   };
-  takes-it = record {
+  takes_it = record {
     gives = answer.Accepted;
     promise = record {
       answer = refl;
       number = refl;
       leaves = record {
         stands = record { counts = refl; state = refl };
-        sendPool = refl;
-        receivePool = refl;
+        send_pool = refl;
+        receive_pool = refl;
         table = refl;
-        ackLength = refl;
-        ackRest = refl;
+        ack_length = refl;
+        ack_rest = refl;
       };
     };
     sees = refl;
   };
   replies = record {
-    lent = flushPartsOf (replicate 50992 0) (replicate 290 0);
+    lent = flush_parts_of (replicate 50992 0) (replicate 290 0);
     room = record { long = omega arith; many = omega arith };
     gives = count.Of 1;
-    after = flushPartsOf (sets (replicate 50992 0) 0 acked) (sets (replicate 290 0) 0 (24 ∷ []));
+    after = flush_parts_of (sets (replicate 50992 0) 0 acked) (sets (replicate 290 0) 0 (24 ∷ []));
     promise = record {
       answer = refl;
       number = refl;
       leaves = record {
         stands = record { counts = refl; state = refl };
-        sendPool = refl;
-        receivePool = refl;
+        send_pool = refl;
+        receive_pool = refl;
         table = refl;
         acks = refl;
         output = record { bytes = refl; sizes = refl; number = refl };
@@ -225,69 +225,69 @@ met = record {
     };
     sees = refl;
   };
-  takes-ack = record {
+  takes_ack = record {
     gives = answer.Accepted;
     promise = record {
       answer = refl;
       number = refl;
       leaves = record {
         stands = record { counts = refl; state = refl };
-        sendPool = refl;
-        receivePool = refl;
+        send_pool = refl;
+        receive_pool = refl;
         table = refl;
-        ackLength = refl;
-        ackRest = refl;
+        ack_length = refl;
+        ack_rest = refl;
       };
     };
     sees = refl;
   };
-  out = record { it = again; one_of = Memᴰ.head refl; has-it = refl };
-  una-before = refl;
-  una-after = refl;
+  out = record { it = again; one_of = Memᴰ.head refl; has_it = refl };
+  una_before = refl;
+  una_after = refl;
 }
 
 -- ---- before the trip
 
 abbrev moves : List Move
 moves =
-    atA (Call.send (104 ∷ 105 ∷ [])) Reply.accepted
-    ∷ atA (Call.flush 7) (Reply.wrote (datagram ∷ []))
+    at_a (Call.send (104 ∷ 105 ∷ [])) Reply.accepted
+    ∷ at_a (Call.flush 7) (Reply.wrote (datagram ∷ []))
     ∷ at_b (Call.read 10) (Reply.refused NoMessage)
     ∷ []
 
-of-a : MadeBy c (eventsOfA moves) flushed
-unfolding eventsOfA
-of-a = record {
+of_a : MadeBy c (events_of_a moves) flushed
+unfolding events_of_a
+of_a = record {
   first = fresh;
-  opens = opens-fresh;
-  runs = next fresh (Call.send (104 ∷ 105 ∷ [])) Reply.accepted sent sends-it
-      (next sent (Call.flush 7) (Reply.wrote (datagram ∷ [])) flushed flushes-it start);
+  opens = opens_fresh;
+  runs = next fresh (Call.send (104 ∷ 105 ∷ [])) Reply.accepted sent sends_it
+      (next sent (Call.flush 7) (Reply.wrote (datagram ∷ [])) flushed flushes_it start);
   conv = omega arith;
-  fits = (bytes-by (104 ∷ 105 ∷ []) refl, (omega arith, tt));
+  fits = (bytes_by (104 ∷ 105 ∷ []) refl, (omega arith, tt));
 }
 
-of-b : MadeBy c (eventsOfB moves) fresh
-unfolding eventsOfB
-of-b = record {
+of_b : MadeBy c (events_of_b moves) fresh
+unfolding events_of_b
+of_b = record {
   first = fresh;
-  opens = opens-fresh;
+  opens = opens_fresh;
   runs = next fresh (Call.read 10) (Reply.refused NoMessage) fresh reads_nothing start;
   conv = omega arith;
   fits = (tt, tt);
 }
 
-few-a : FewSegments of-a
-unfolding usedWindow slowStart raised widened avoidance limited grown afterDatagram halved bySkips byTimeout atLeastOne fits
-    congestion.afterFlush of-a fragmentsAccepted fragmentCount segmentCount filled state_of fresh opened
-few-a = omega arith
+few_a : FewSegments of_a
+unfolding used_window slow_start raised widened avoidance limited grown after_datagram halved by_skips by_timeout at_least_one fits
+    congestion.after_flush of_a fragments_accepted fragment_count segment_count filled state_of fresh opened
+few_a = omega arith
 
-few-b : FewSegments of-b
-unfolding of-b fragmentsAccepted
-few-b = omega arith
+few_b : FewSegments of_b
+unfolding of_b fragments_accepted
+few_b = omega arith
 
-until-9 : ReadUntil9 (eventsOfB moves)
-unfolding eventsOfB
-until-9 = record { before = []; room = 10; since = []; are = refl; unheard = tt }
+until_9 : ReadUntil9 (events_of_b moves)
+unfolding events_of_b
+until_9 = record { before = []; room = 10; since = []; are = refl; unheard = tt }
 
 -- ---- the trip
 
@@ -296,34 +296,34 @@ unfolding again
 there = record {
   call = Call.update 300;
   writes = again ∷ [];
-  flushes = met.sends-again;
+  flushes = met.sends_again;
   arrivals = again ∷ [];
-  all-arrive = record { all = (Memᴰ.head refl, tt); only = (Memᴰ.head refl, tt) };
-  events = record { call = Call.takeIn again; answer = Reply.accepted } ∷ [];
-  hears = next fresh (Call.takeIn again) Reply.accepted heard met.takes-it start;
-  fits = (omega arith, (bytes-by again refl, tt));
+  all_arrive = record { all = (Memᴰ.head refl, tt); only = (Memᴰ.head refl, tt) };
+  events = record { call = Call.take_in again; answer = Reply.accepted } ∷ [];
+  hears = next fresh (Call.take_in again) Reply.accepted heard met.takes_it start;
+  fits = (omega arith, (bytes_by again refl, tt));
 }
 
-back-again : FlushArrives heard resent replied done
+back_again : FlushArrives heard resent replied done
 unfolding acked
-back-again = record {
+back_again = record {
   call = Call.flush 9;
   writes = acked ∷ [];
   flushes = met.replies;
   arrivals = acked ∷ [];
-  all-arrive = record { all = (Memᴰ.head refl, tt); only = (Memᴰ.head refl, tt) };
-  events = record { call = Call.takeIn acked; answer = Reply.accepted } ∷ [];
-  hears = next resent (Call.takeIn acked) Reply.accepted done met.takes-ack start;
-  fits = (omega arith, (bytes-by acked refl, tt));
+  all_arrive = record { all = (Memᴰ.head refl, tt); only = (Memᴰ.head refl, tt) };
+  events = record { call = Call.take_in acked; answer = Reply.accepted } ∷ [];
+  hears = next resent (Call.take_in acked) Reply.accepted done met.takes_ack start;
+  fits = (omega arith, (bytes_by acked refl, tt));
 }
 
 trip : GoodRoundTrip c flushed fresh done
 unfolding there
-trip = record { a' = resent; b' = heard; b'' = replied; there = there; back = back-again; goes-out = met.out }
+trip = record { a' = resent; b' = heard; b'' = replied; there = there; back = back_again; goes_out = met.out }
 
-heard-only : HeardOnlyEachOther moves
-heard-only = (tt, (tt, (tt, tt)))
+heard_only : HeardOnlyEachOther moves
+heard_only = (tt, (tt, (tt, tt)))
 
 -- the theorem says something of them: snd_una was 0, and is 1
 pub holds : Passed flushed.link.flight.una done.link.flight.una
-holds = one-good-round-trip c moves flushed fresh done of-a of-b heard-only few-a few-b until-9 trip
+holds = one_good_round_trip c moves flushed fresh done of_a of_b heard_only few_a few_b until_9 trip

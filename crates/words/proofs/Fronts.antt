@@ -6,7 +6,7 @@ use Prim.Native.Nat.{ℕ, ◌+◌, ◌-◌, ◌≤◌, ◌<◌}
 use native.Mathlib.Omega.{arith}
 use lib.ListN.{length, take, drop, set, length-set}
 use Rattle.lists.specs.Views.{Holds}
-use Rattle.lists.proofs.Loops.{Packed, holds-put, packed-done, written-put, written-done, view-end}
+use Rattle.lists.proofs.Loops.{Packed, holds_put, packed_done, written_put, written_done, view_end}
 use Rattle.words.specs.Words.{Front}
 
 module _ {A : Type 0} {size : ℕ} where
@@ -17,15 +17,15 @@ module _ {A : Type 0} {size : ℕ} where
   pub front_at : {at : List A} {n : ℕ} {l : List A} (m : ℕ) → n ≡ m → Front size at n l → Front size at m l
   front_at {at} {n} {l} m e f = subst (λ (i : ℕ). Front size at i l) e f
 
-  pub front-put : (at : List A) (n : ℕ) (a : A) → length at ≡ size → n < size → Front size (set at n a) (n + 1) (take n at ++ (a ∷ []))
-  front-put at n a e h = front (length-set at n a ∙ e) (holds-put at n a e h)
+  pub front_put : (at : List A) (n : ℕ) (a : A) → length at ≡ size → n < size → Front size (set at n a) (n + 1) (take n at ++ (a ∷ []))
+  front_put at n a e h = front (length-set at n a ∙ e) (holds_put at n a e h)
 
-  pub front-packed : {n : ℕ} {l₀ l todo goal : List A} {i j : ℕ} → todo ≡ [] → Packed size n l₀ l todo goal i j → Front size l j goal
-  front-packed e p = front p.written.whole (packed-done e p)
+  pub front_packed : {n : ℕ} {l₀ l todo goal : List A} {i j : ℕ} → todo ≡ [] → Packed size n l₀ l todo goal i j → Front size l j goal
+  front_packed e p = front p.written.whole (packed_done e p)
 
   -- what is carried is put behind the last
-  pub front-carried : {n : ℕ} {l₀ l goal : List A} {a : A} {j : ℕ} (m : ℕ) → n ≤ j → n < size → n + 1 ≡ m
+  pub front_carried : {n : ℕ} {l₀ l goal : List A} {a : A} {j : ℕ} (m : ℕ) → n ≤ j → n < size → n + 1 ≡ m
       → Packed size n l₀ l (a ∷ drop j (take n l₀)) goal j j → Front size (set l j a) m goal
-  front-carried {n} {l₀} {l} {goal} {a} {j} m h g e p =
+  front_carried {n} {l₀} {l} {goal} {a} {j} m h g e p =
       front_at m (omega (arith, p.upto)) (front (length-set l j a ∙ p.written.whole)
-      (written-done (view-end l₀ n j h) (written-put (omega (arith, p.upto)) p.written)))
+      (written_done (view_end l₀ n j h) (written_put (omega (arith, p.upto)) p.written)))

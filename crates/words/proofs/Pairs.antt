@@ -13,68 +13,68 @@ use lib.ListN.{length, take, drop, get_or, set, length-set}
 use lib.Seq.{get_or-take, length-take-le}
 use Rattle.protocol.specs.Serial.{minus}
 use Rattle.lists.specs.declared.Waiting.{Waiting}
-use Rattle.lists.specs.Orders.{insert, waitingOffset}
-use Rattle.lists.proofs.Searches.{insert-end, insert-same, insert-here, insert-room}
+use Rattle.lists.specs.Orders.{insert, waiting_offset}
+use Rattle.lists.proofs.Searches.{insert_end, insert_same, insert_here, insert_room}
 use Rattle.session.specs.Decides.{and_parts}
-use Rattle.words.specs.Words.{Front, Sides, Placed, paired, waitingAt, waitingIn}
+use Rattle.words.specs.Words.{Front, Sides, Placed, paired, waiting_at, waiting_in}
 
 -- ---- laws of `paired`
 
 module _ {A : Type 0} (entry : ℕ → ℕ → A) where
-  pub paired-take : (n : ℕ) (ws ns : List ℕ) → paired entry (take n ws) (take n ns) ≡ take n (paired entry ws ns)
+  pub paired_take : (n : ℕ) (ws ns : List ℕ) → paired entry (take n ws) (take n ns) ≡ take n (paired entry ws ns)
   unfolding paired
-  paired-take zero ws ns = refl
-  paired-take (suc n) [] ns = refl
-  paired-take (suc n) (w ∷ ws) [] = refl
-  paired-take (suc n) (w ∷ ws) (m ∷ ns) = ap (λ (l : List A). entry w m ∷ l) (paired-take n ws ns)
+  paired_take zero ws ns = refl
+  paired_take (suc n) [] ns = refl
+  paired_take (suc n) (w ∷ ws) [] = refl
+  paired_take (suc n) (w ∷ ws) (m ∷ ns) = ap (λ (l : List A). entry w m ∷ l) (paired_take n ws ns)
 
-  pub paired-length : (ws ns : List ℕ) (k : ℕ) → length ws ≡ k → length ns ≡ k → length (paired entry ws ns) ≡ k
+  pub paired_length : (ws ns : List ℕ) (k : ℕ) → length ws ≡ k → length ns ≡ k → length (paired entry ws ns) ≡ k
   unfolding paired
-  paired-length [] ns k e f = e
-  paired-length (w ∷ ws) [] k e f = absurd (omega arith)
-  paired-length (w ∷ ws) (m ∷ ns) k e f = ap suc (paired-length ws ns (length ws) refl (omega arith)) ∙ e
+  paired_length [] ns k e f = e
+  paired_length (w ∷ ws) [] k e f = absurd (omega arith)
+  paired_length (w ∷ ws) (m ∷ ns) k e f = ap suc (paired_length ws ns (length ws) refl (omega arith)) ∙ e
 
-  pub paired-set : (ws ns : List ℕ) (j w m : ℕ) → set (paired entry ws ns) j (entry w m) ≡ paired entry (set ws j w) (set ns j m)
+  pub paired_set : (ws ns : List ℕ) (j w m : ℕ) → set (paired entry ws ns) j (entry w m) ≡ paired entry (set ws j w) (set ns j m)
   unfolding paired
-  paired-set [] ns j w m = refl
-  paired-set (v ∷ ws) [] zero w m = refl
-  paired-set (v ∷ ws) [] (suc j) w m = refl
-  paired-set (v ∷ ws) (k ∷ ns) zero w m = refl
-  paired-set (v ∷ ws) (k ∷ ns) (suc j) w m = ap (λ (l : List A). entry v k ∷ l) (paired-set ws ns j w m)
+  paired_set [] ns j w m = refl
+  paired_set (v ∷ ws) [] zero w m = refl
+  paired_set (v ∷ ws) [] (suc j) w m = refl
+  paired_set (v ∷ ws) (k ∷ ns) zero w m = refl
+  paired_set (v ∷ ws) (k ∷ ns) (suc j) w m = ap (λ (l : List A). entry v k ∷ l) (paired_set ws ns j w m)
 
-  pub paired-get : (ws ns : List ℕ) (i : ℕ) (d : A) → i < length ws → i < length ns
+  pub paired_get : (ws ns : List ℕ) (i : ℕ) (d : A) → i < length ws → i < length ns
       → get_or (paired entry ws ns) i d ≡ entry (get_or ws i 0) (get_or ns i 0)
   unfolding paired
-  paired-get [] ns i d h g = absurd (not-suc-le-zero h)
-  paired-get (w ∷ ws) [] i d h g = absurd (not-suc-le-zero g)
-  paired-get (w ∷ ws) (m ∷ ns) zero d h g = refl
-  paired-get (w ∷ ws) (m ∷ ns) (suc i) d h g = paired-get ws ns i d (le_of_suc-le-suc h) (le_of_suc-le-suc g)
+  paired_get [] ns i d h g = absurd (not-suc-le-zero h)
+  paired_get (w ∷ ws) [] i d h g = absurd (not-suc-le-zero g)
+  paired_get (w ∷ ws) (m ∷ ns) zero d h g = refl
+  paired_get (w ∷ ws) (m ∷ ns) (suc i) d h g = paired_get ws ns i d (le_of_suc-le-suc h) (le_of_suc-le-suc g)
 
   -- one more of each at index i
-  pub paired-insert : (i : ℕ) (ws ns : List ℕ) (w m : ℕ) → length ws ≡ length ns
+  pub paired_insert : (i : ℕ) (ws ns : List ℕ) (w m : ℕ) → length ws ≡ length ns
       → paired entry (take i ws ++ (w ∷ drop i ws)) (take i ns ++ (m ∷ drop i ns)) ≡ take i (paired entry ws ns)
       ++ (entry w m ∷ drop i (paired entry ws ns))
   unfolding paired
-  paired-insert zero ws ns w m e = refl
-  paired-insert (suc i) [] [] w m e = refl
-  paired-insert (suc i) [] (k ∷ ns) w m e = absurd (omega arith)
-  paired-insert (suc i) (v ∷ ws) [] w m e = absurd (omega arith)
-  paired-insert (suc i) (v ∷ ws) (k ∷ ns) w m e = ap (λ (l : List A). entry v k ∷ l) (paired-insert i ws ns w m (omega arith))
+  paired_insert zero ws ns w m e = refl
+  paired_insert (suc i) [] [] w m e = refl
+  paired_insert (suc i) [] (k ∷ ns) w m e = absurd (omega arith)
+  paired_insert (suc i) (v ∷ ws) [] w m e = absurd (omega arith)
+  paired_insert (suc i) (v ∷ ws) (k ∷ ns) w m e = ap (λ (l : List A). entry v k ∷ l) (paired_insert i ws ns w m (omega arith))
 
-  pub paired-drop : (n : ℕ) (ws ns : List ℕ) → paired entry (drop n ws) (drop n ns) ≡ drop n (paired entry ws ns)
+  pub paired_drop : (n : ℕ) (ws ns : List ℕ) → paired entry (drop n ws) (drop n ns) ≡ drop n (paired entry ws ns)
   unfolding paired
-  paired-drop zero ws ns = refl
-  paired-drop (suc n) [] ns = refl
-  paired-drop (suc n) (w ∷ ws) [] = empty (drop n ws)
+  paired_drop zero ws ns = refl
+  paired_drop (suc n) [] ns = refl
+  paired_drop (suc n) (w ∷ ws) [] = empty (drop n ws)
     where
       empty : (l : List ℕ) → paired entry l [] ≡ []
       empty [] = refl
       empty (x ∷ l) = refl
-  paired-drop (suc n) (w ∷ ws) (m ∷ ns) = paired-drop n ws ns
+  paired_drop (suc n) (w ∷ ws) (m ∷ ns) = paired_drop n ws ns
 
 -- what stands past the arrays
 abbrev pub blank : Waiting
-blank = waitingAt 0 0
+blank = waiting_at 0 0
 
 -- ---- insertion
 placed : {A : Type 0} (offset : A → ℕ) (a : A) (l : List A) (i : ℕ) (d : A) → i ≤ length l
@@ -90,72 +90,72 @@ placed offset a (x ∷ l) (suc i) d h b =
 module _ (ws ns : List ℕ) (n i base word number : ℕ) (e : length ws ≡ 128) (f : length ns ≡ 128) (g : n ≤ 128)
     (p : Placed base (minus number base) ns n i) where
   abbrev whole : List Waiting
-  whole = paired waitingAt ws ns
+  whole = paired waiting_at ws ns
 
   abbrev goes : List Waiting
-  goes = insert (waitingOffset base) (waitingAt word number) (waitingIn ws ns n)
+  goes = insert (waiting_offset base) (waiting_at word number) (waiting_in ws ns n)
 
   long : n ≤ length whole
-  long = rw (paired-length waitingAt ws ns 128 e f) g
+  long = rw (paired_length waiting_at ws ns 128 e f) g
 
-  at : (j : ℕ) → j < n → waitingOffset base (get_or whole j blank) ≡ minus (get_or ns j 0) base
-  at j h = rw (paired-get waitingAt ws ns j blank (omega arith) (omega arith)) refl
+  at : (j : ℕ) → j < n → waiting_offset base (get_or whole j blank) ≡ minus (get_or ns j 0) base
+  at j h = rw (paired_get waiting_at ws ns j blank (omega arith) (omega arith)) refl
 
-  front : insert (waitingOffset base) (waitingAt word number) (take n whole) ≡ take i (take n whole)
-      ++ insert (waitingOffset base) (waitingAt word number) (drop i (take n whole))
-  front = placed (waitingOffset base) (waitingAt word number) (take n whole) i blank (rw (length-take-le n whole long) p.within)
+  front : insert (waiting_offset base) (waiting_at word number) (take n whole) ≡ take i (take n whole)
+      ++ insert (waiting_offset base) (waiting_at word number) (drop i (take n whole))
+  front = placed (waiting_offset base) (waiting_at word number) (take n whole) i blank (rw (length-take-le n whole long) p.within)
       (λ j h. rw (get_or-take n whole j blank (omega (arith, p.within)), at j (omega (arith, p.within))) (p.below j h))
 
-  pub insert-held : (ltb i n && eqb (minus (get_or ns i 0) base) (minus number base)) ≡ true → Sides waitingAt 128 ws ns n goes
-  insert-held h =
+  pub insert_held : (ltb i n && eqb (minus (get_or ns i 0) base) (minus number base)) ≡ true → Sides waiting_at 128 ws ns n goes
+  insert_held h =
       let parts = and_parts (ltb i n) (eqb (minus (get_or ns i 0) base) (minus number base)) h in
       let less : i < n = ltb-true i n parts.0 in
       record {
         whole = e;
         wholes = f;
         fits = g;
-        list = sym (rw (paired-take waitingAt n ws ns)
-            (insert-same (waitingOffset base) (waitingAt word number) whole n i long front blank _ _ less (sym (at i less)) refl
+        list = sym (rw (paired_take waiting_at n ws ns)
+            (insert_same (waiting_offset base) (waiting_at word number) whole n i long front blank _ _ less (sym (at i less)) refl
             (eqb-true _ _ parts.1)));
       }
 
   goes_in : (ltb i n && eqb (minus (get_or ns i 0) base) (minus number base)) ≡ false
-      → insert (waitingOffset base) (waitingAt word number) (take n whole) ≡ take i (take n whole)
-      ++ (waitingAt word number ∷ drop i (take n whole))
+      → insert (waiting_offset base) (waiting_at word number) (take n whole) ≡ take i (take n whole)
+      ++ (waiting_at word number ∷ drop i (take n whole))
   goes_in h = go (dec_lt i n)
     where
       differ : i < n → minus (get_or ns i 0) base ≡ minus number base → ⊥
       differ l q = let z : ◌≡◌ {A = Bool} true false = sym (rw (lt-ltb i n l, eq-eqb _ _ q)) ∙ h in let w : ◌≡◌ {A = ℕ} 0 1 = cc in
           omega arith
 
-      go : Dec (i < n) → insert (waitingOffset base) (waitingAt word number) (take n whole) ≡ take i (take n whole)
-          ++ (waitingAt word number ∷ drop i (take n whole))
-      go (yes l) = insert-here (waitingOffset base) (waitingAt word number) whole n i long front blank _ _ l (sym (at i l)) refl (differ l)
+      go : Dec (i < n) → insert (waiting_offset base) (waiting_at word number) (take n whole) ≡ take i (take n whole)
+          ++ (waiting_at word number ∷ drop i (take n whole))
+      go (yes l) = insert_here (waiting_offset base) (waiting_at word number) whole n i long front blank _ _ l (sym (at i l)) refl (differ l)
           (let w = differ l in omega (arith, p.here l, w))
-      go (no l) = insert-end (waitingOffset base) (waitingAt word number) whole n i long front (omega arith)
+      go (no l) = insert_end (waiting_offset base) (waiting_at word number) whole n i long front (omega arith)
 
   -- there is room
-  pub insert-fits : (ltb i n && eqb (minus (get_or ns i 0) base) (minus number base)) ≡ false → length goes ≤ 128 → n < 128
-  insert-fits h l = insert-room (waitingOffset base) (waitingAt word number) whole n i long front 128
-      (rw (← paired-take waitingAt n ws ns) l) (goes_in h)
+  pub insert_fits : (ltb i n && eqb (minus (get_or ns i 0) base) (minus number base)) ≡ false → length goes ≤ 128 → n < 128
+  insert_fits h l = insert_room (waiting_offset base) (waiting_at word number) whole n i long front 128
+      (rw (← paired_take waiting_at n ws ns) l) (goes_in h)
 
-  pub insert-new : (ws' ns' : List ℕ) → (ltb i n && eqb (minus (get_or ns i 0) base) (minus number base)) ≡ false
+  pub insert_new : (ws' ns' : List ℕ) → (ltb i n && eqb (minus (get_or ns i 0) base) (minus number base)) ≡ false
       → Front 128 ws' (n + 1) (take i (take n ws) ++ (word ∷ drop i (take n ws)))
-      → Front 128 ns' (n + 1) (take i (take n ns) ++ (number ∷ drop i (take n ns))) → Sides waitingAt 128 ws' ns' (n + 1) goes
-  insert-new ws' ns' h a b =
+      → Front 128 ns' (n + 1) (take i (take n ns) ++ (number ∷ drop i (take n ns))) → Sides waiting_at 128 ws' ns' (n + 1) goes
+  insert_new ws' ns' h a b =
       record {
         whole = a.whole;
         wholes = b.whole;
         fits = a.fits;
-        list = rw (a.list, b.list) (paired-insert waitingAt i (take n ws) (take n ns) word number
-            (length-take-le n ws (omega arith) ∙ sym (length-take-le n ns (omega arith))) ∙ rw (paired-take waitingAt n ws ns)
+        list = rw (a.list, b.list) (paired_insert waiting_at i (take n ws) (take n ns) word number
+            (length-take-le n ws (omega arith) ∙ sym (length-take-le n ns (omega arith))) ∙ rw (paired_take waiting_at n ws ns)
             (sym (goes_in h)));
       }
 
 -- ---- the search for a place
-pub more-below : (base offset : ℕ) (ns : List ℕ) (i : ℕ) → minus (get_or ns i 0) base < offset
+pub more_below : (base offset : ℕ) (ns : List ℕ) (i : ℕ) → minus (get_or ns i 0) base < offset
     → ((j : ℕ) → j < i → minus (get_or ns j 0) base < offset) → (j : ℕ) → j < i + 1 → minus (get_or ns j 0) base < offset
-more-below base offset ns i h b j l = go (dec_lt j i)
+more_below base offset ns i h b j l = go (dec_lt j i)
   where
     go : Dec (j < i) → minus (get_or ns j 0) base < offset
     go (yes s) = b j s

@@ -6,8 +6,8 @@ use Rattle.lists.specs.declared.Held.{Held}
 use Rattle.words.specs.Words.{unpack}
 
 -- the parts, one behind the other, are found again
-pub unpack-pack : (h : Held) → h.slot < 256 → h.fragment < 256 → unpack (h.slot + 256 * h.fragment + 65536 * h.len) ≡ h
-unpack-pack h s f =
+pub unpack_pack : (h : Held) → h.slot < 256 → h.fragment < 256 → unpack (h.slot + 256 * h.fragment + 65536 * h.len) ≡ h
+unpack_pack h s f =
     let w : ℕ = h.slot + 256 * h.fragment + 65536 * h.len in
     let a : w % 256 ≡ h.slot = omega arith in
     let b : w / 65536 ≡ h.len = omega arith in

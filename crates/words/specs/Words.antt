@@ -12,8 +12,8 @@ abbrev pub unpack : ℕ → Held
 unpack w = record { slot = w % 256; len = w / 65536; fragment = w / 256 % 256 }
 
 -- the segments of the first n words
-abbrev pub heldIn : List ℕ → ℕ → List Held
-heldIn words n = map unpack (take n words)
+abbrev pub held_in : List ℕ → ℕ → List Held
+held_in words n = map unpack (take n words)
 
 -- two arrays side by side, an entry of each made into one
 module _ {A : Type 0} (entry : ℕ → ℕ → A) where
@@ -23,22 +23,22 @@ module _ {A : Type 0} (entry : ℕ → ℕ → A) where
   paired (w ∷ words) (n ∷ numbers) = entry w n ∷ paired words numbers
 
   -- the first n of both
-  abbrev pub pairedIn : List ℕ → List ℕ → ℕ → List A
-  pairedIn words numbers n = paired (take n words) (take n numbers)
+  abbrev pub paired_in : List ℕ → List ℕ → ℕ → List A
+  paired_in words numbers n = paired (take n words) (take n numbers)
 
 -- a waiting segment: its word, and its number
-abbrev pub waitingAt : ℕ → ℕ → Waiting
-waitingAt word number = record { number = number; held = unpack word }
+abbrev pub waiting_at : ℕ → ℕ → Waiting
+waiting_at word number = record { number = number; held = unpack word }
 
-abbrev pub waitingIn : List ℕ → List ℕ → ℕ → List Waiting
-waitingIn = pairedIn waitingAt
+abbrev pub waiting_in : List ℕ → List ℕ → ℕ → List Waiting
+waiting_in = paired_in waiting_at
 
 -- an outstanding segment: its word, and its transmissions
-abbrev pub outstandingAt : ℕ → ℕ → Outstanding
-outstandingAt word transmissions = record { held = unpack word; transmissions = transmissions }
+abbrev pub outstanding_at : ℕ → ℕ → Outstanding
+outstanding_at word transmissions = record { held = unpack word; transmissions = transmissions }
 
-abbrev pub outstandingIn : List ℕ → List ℕ → ℕ → List Outstanding
-outstandingIn = pairedIn outstandingAt
+abbrev pub outstanding_in : List ℕ → List ℕ → ℕ → List Outstanding
+outstanding_in = paired_in outstanding_at
 
 -- an array of this size whose first elements, up to the count, are l
 pub record Front {A : Type 0} (size : ℕ) (at : List A) (count : ℕ) (l : List A) : Type 0 where
@@ -51,7 +51,7 @@ pub record Sides {A : Type 0} (entry : ℕ → ℕ → A) (size : ℕ) (words nu
   pub whole : length words ≡ size
   pub wholes : length numbers ≡ size
   pub fits : count ≤ size
-  pub list : pairedIn entry words numbers count ≡ l
+  pub list : paired_in entry words numbers count ≡ l
 
 -- i is the first of n numbers whose offset from base is not below `offset`
 pub record Placed (base offset : ℕ) (numbers : List ℕ) (n i : ℕ) : Type 0 where

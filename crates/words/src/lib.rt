@@ -1,8 +1,8 @@
 // Lists in the front of lent arrays, changed in place. A held segment is one word: slot, fragment number and length.
 ghost use Rattle.std.specs.Prelude.{◌≡◌, [], ◌∷◌, ◌++◌, ◌+◌, ◌-◌, ◌≤◌, ◌<◌, take, drop, length, get_or, ◌&&◌, ltb, eqb};
 ghost use Rattle.protocol.specs.Serial.{minus};
-ghost use Rattle.lists.specs.Orders.{waitingOffset, insert};
-ghost use Rattle.words.specs.Words.{unpack, Front, waitingAt, waitingIn, Sides, Placed};
+ghost use Rattle.lists.specs.Orders.{waiting_offset, insert};
+ghost use Rattle.words.specs.Words.{unpack, Front, waiting_at, waiting_in, Sides, Placed};
 
 use lists::Held;
 use protocol::serial;
@@ -105,9 +105,9 @@ pub fn insert(
     number: u32,
 ) -> usize
     requires { (length words.old ≡ 128) × (length numbers.old ≡ 128) × (n ≤ 128) ×
-        (length (insert (waitingOffset base) (waitingAt word number) (waitingIn words.old numbers.old n)) ≤ 128) }
-    ensures { Sides waitingAt 128 words.new numbers.new result
-        (insert (waitingOffset base) (waitingAt word number) (waitingIn words.old numbers.old n)) }
+        (length (insert (waiting_offset base) (waiting_at word number) (waiting_in words.old numbers.old n)) ≤ 128) }
+    ensures { Sides waiting_at 128 words.new numbers.new result
+        (insert (waiting_offset base) (waiting_at word number) (waiting_in words.old numbers.old n)) }
 {
     let offset = serial::difference(number, base);
     let i = place(numbers, n, base, offset);

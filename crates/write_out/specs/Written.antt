@@ -8,15 +8,15 @@ use Rattle.control.specs.declared.Link.{Link}
 use Rattle.promises.specs.Parts.{Parts, FlushParts}
 use Rattle.promises.specs.Cores.{PutBack}
 use Rattle.promises.specs.Promises.{FlushPromise, UpdatePromise}
-use Rattle.codes.specs.Codes.{countCode, updateCode}
+use Rattle.codes.specs.Codes.{count_code, update_code}
 use Rattle.codes.specs.Gives.{Gives}
 use Rattle.from_cores.specs.Left.{FlushLeft, UpdateLeft}
-use Rattle.flush_core.specs.Flushes.{updateOf}
+use Rattle.flush_core.specs.Flushes.{update_of}
 
 abbrev pub Left : Bool → ℕ → Link → Parts → FlushParts → Update → PutBack → Link → FlushParts → Type 0
-Left false t l p f a b l' f' = (n : Count) × (a ≡ updateOf n) × FlushLeft t l p f n b l' f'
+Left false t l p f a b l' f' = (n : Count) × (a ≡ update_of n) × FlushLeft t l p f n b l' f'
 Left true t l p f a b l' f' = UpdateLeft t l p f a b l' f'
 
 abbrev pub WrittenOut : Bool → ℕ → Link → Parts → FlushParts → Link → Parts → FlushParts → ℤ → Type 0
-WrittenOut false t l p f l' p' f' r = Gives countCode (λ a. FlushPromise t l p f a l' p' f') r
-WrittenOut true t l p f l' p' f' r = Gives updateCode (λ a. UpdatePromise t l p f a l' p' f') r
+WrittenOut false t l p f l' p' f' r = Gives count_code (λ a. FlushPromise t l p f a l' p' f') r
+WrittenOut true t l p f l' p' f' r = Gives update_code (λ a. UpdatePromise t l p f a l' p' f') r

@@ -1,6 +1,6 @@
 // A flush, or where it is paced an update, of the block behind a pointer: the records of the outstanding segments are gathered from the lent
 // table, and put back. Proved by a walk.
-ghost use Rattle.promises.specs.Parts.{parts_of, flushPartsOf};
+ghost use Rattle.promises.specs.Parts.{parts_of, flush_parts_of};
 ghost use Rattle.write_out.specs.Written.{WrittenOut};
 
 use control::Link;
@@ -20,9 +20,9 @@ pub fn write_out(
 ) -> i32
     ensures { WrittenOut paced t link.old
         (parts_of send_pool.now receive_pool.now table.old acks.now)
-        (flushPartsOf output.old lengths.old) link.new
+        (flush_parts_of output.old lengths.old) link.new
         (parts_of send_pool.now receive_pool.now table.new acks.now)
-        (flushPartsOf output.new lengths.new) result }
+        (flush_parts_of output.new lengths.new) result }
 {
     let mut send_marks = marks::none_to_send();
     let mut receive_marks = marks::none();

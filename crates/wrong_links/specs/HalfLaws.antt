@@ -7,9 +7,9 @@ use Rattle.std.specs.Prelude.{Bool, cond, not, ◌&&◌, ◌||◌, ℕ, suc, ◌
 use Rattle.std.proofs.Math.Bool.{true, false}
 use mathlib.Core.List.{List, [], ◌∷◌, map}
 use Rattle.std.proofs.lemmas.List.{length-map}
-use Rattle.protocol.specs.Protocol.{push, ack, windowAsk, receiveSlots}
+use Rattle.protocol.specs.Protocol.{push, ack, window_ask, receive_slots}
 use Rattle.protocol.specs.Ranges.{mss}
-use Rattle.protocol.specs.Serial.{minus, isBefore}
+use Rattle.protocol.specs.Serial.{minus, is_before}
 use Rattle.protocol.specs.declared.Refusal.{Refusal}
 use Rattle.protocol.specs.declared.Settings.{Settings}
 use Rattle.wire.specs.declared.Header.{Header}
@@ -17,33 +17,33 @@ use Rattle.datagram.specs.Datagrams.{Segment, Parsed, parse}
 use Rattle.lists.specs.declared.Sent.{Sent}
 use Rattle.lists.specs.declared.Waiting.{Waiting}
 use Rattle.lists.specs.declared.Acknowledges.TheVariants as by
-use Rattle.lists.specs.Acknowledging.{select, skipBefore}
-use Rattle.lists.specs.AcknowledgingLaws.{skip-number}
-use Rattle.lists.specs.Orders.{waitingOffset, is_held, insert}
-use Rattle.lists.specs.ReceivingLaws.{advance-held}
+use Rattle.lists.specs.Acknowledging.{select, skip_before}
+use Rattle.lists.specs.AcknowledgingLaws.{skip_number}
+use Rattle.lists.specs.Orders.{waiting_offset, is_held, insert}
+use Rattle.lists.specs.ReceivingLaws.{advance_held}
 use Rattle.session.specs.Decides.{or_parts}
-use Rattle.session.specs.Slots.{occurs, lowestFree}
-use Rattle.session.specs.State.{State, Sending, Receiving, receiveHeld, slots, withWindow, withOutstanding}
+use Rattle.session.specs.Slots.{occurs, lowest_free}
+use Rattle.session.specs.State.{State, Sending, Receiving, receive_held, slots, with_window, with_outstanding}
 use Rattle.session.specs.Input.{
   acknowledged,
-  sampledBy,
-  heardBySending,
-  allBySending,
-  ackNumbers,
+  sampled_by,
+  heard_by_sending,
+  all_by_sending,
+  ack_numbers,
   skipped,
-  skippedByAll,
+  skipped_by_all,
   furthest,
   Receiver,
   kept,
-  withAcks,
+  with_acks,
   noted,
-  movedUp,
-  inWindow,
-  isNew,
+  moved_up,
+  in_window,
+  is_new,
   pushed,
   asked,
-  heardByReceiving,
-  allByReceiving,
+  heard_by_receiving,
+  all_by_receiving,
   applied,
   taking,
   input,
@@ -52,11 +52,11 @@ use Rattle.sizes.specs.Sizes.{enough}
 use Rattle.control.specs.Views.{state_of}
 use Rattle.control.specs.declared.Link.{Link}
 use Rattle.answers.specs.declared.Answer.TheVariants as answer
-use Rattle.promises.specs.Parts.{Parts, lengthsOf, stateIn, isMade}
-use Rattle.promises.specs.Outcomes.{checked, takesInWith}
+use Rattle.promises.specs.Parts.{Parts, lengths_of, state_in, is_made}
+use Rattle.promises.specs.Outcomes.{checked, takes_in_with}
 use Rattle.promises.specs.Answers.{Accepts}
 use Rattle.promises.specs.Promises.{TookIn, InputPromise, InputLeaves}
-use Rattle.wrong_links.specs.Halves.{outstandingNumbers, heldCount, isKept, keptOf}
+use Rattle.wrong_links.specs.Halves.{outstanding_numbers, held_count, is_kept, kept_of}
 
 -- ---- the sending half
 
@@ -64,22 +64,22 @@ abbrev Gone : ℕ → List Sent → Type 0
 Gone n l = occurs n (map (λ (x : Sent). x.record.number) l) ≡ false
 
 -- what is gone stays gone
-select-gone : (n : ℕ) (test : Sent → Bool) (l : List Sent) → Gone n l → Gone n (select test l)
+select_gone : (n : ℕ) (test : Sent → Bool) (l : List Sent) → Gone n l → Gone n (select test l)
 unfolding occurs select
-select-gone n test [] h = h
-select-gone n test (x ∷ l) h =
+select_gone n test [] h = h
+select_gone n test (x ∷ l) h =
     let p = or_parts (eqb n x.record.number) (occurs n (map (λ (x : Sent). x.record.number) l)) h in
-    go (test x) p.0 (select-gone n test l p.1)
+    go (test x) p.0 (select_gone n test l p.1)
   where
     go : (b : Bool) → eqb n x.record.number ≡ false → Gone n (select test l) → Gone n (cond b (x ∷ select test l) (select test l))
     go true e r = rw (e, r)
     go false e r = r
 
 -- an ack's number is gone
-ack-gone : (n : ℕ) (l : List Sent) → Gone n (select (λ (x : Sent). not (eqb x.record.number n)) l)
+ack_gone : (n : ℕ) (l : List Sent) → Gone n (select (λ (x : Sent). not (eqb x.record.number n)) l)
 unfolding occurs select
-ack-gone n [] = refl
-ack-gone n (x ∷ l) = go (eqb x.record.number n) refl (ack-gone n l)
+ack_gone n [] = refl
+ack_gone n (x ∷ l) = go (eqb x.record.number n) refl (ack_gone n l)
   where
     turned : eqb x.record.number n ≡ false → eqb n x.record.number ≡ false
     turned e = flip (eqb n x.record.number) refl
@@ -97,175 +97,175 @@ ack-gone n (x ∷ l) = go (eqb x.record.number n) refl (ack-gone n l)
     go false e r = rw (turned e, r)
 
 module _ (c : Settings) (current n : ℕ) where
-  heard-gone : (s : Sending) (h : Header) → Gone n s.outstanding → Gone n (heardBySending c current s h).outstanding
-  unfolding heardBySending acknowledged sampledBy
-  heard-gone s h g = go (eqb h.cmd ack)
+  heard_gone : (s : Sending) (h : Header) → Gone n s.outstanding → Gone n (heard_by_sending c current s h).outstanding
+  unfolding heard_by_sending acknowledged sampled_by
+  heard_gone s h g = go (eqb h.cmd ack)
     where
       passed : Sending
-      passed = acknowledged (by.Una h.una) (withWindow h.wnd s)
+      passed = acknowledged (by.Una h.una) (with_window h.wnd s)
 
-      go : (b : Bool) → Gone n (cond b (acknowledged (by.Ack h.sn) (sampledBy c current h.ts passed)) passed).outstanding
-      go true = select-gone n _ _ (select-gone n _ _ g)
-      go false = select-gone n _ _ g
+      go : (b : Bool) → Gone n (cond b (acknowledged (by.Ack h.sn) (sampled_by c current h.ts passed)) passed).outstanding
+      go true = select_gone n _ _ (select_gone n _ _ g)
+      go false = select_gone n _ _ g
 
-  acked-gone : (s : Sending) (h : Header) → eqb h.cmd ack ≡ true → h.sn ≡ n → Gone n (heardBySending c current s h).outstanding
-  unfolding heardBySending acknowledged sampledBy
-  acked-gone s h e f = rw (e, f) (ack-gone n _)
+  acked_gone : (s : Sending) (h : Header) → eqb h.cmd ack ≡ true → h.sn ≡ n → Gone n (heard_by_sending c current s h).outstanding
+  unfolding heard_by_sending acknowledged sampled_by
+  acked_gone s h e f = rw (e, f) (ack_gone n _)
 
-  all-gone : (gs : List Segment) (s : Sending) → Gone n s.outstanding → Gone n (allBySending c current s gs).outstanding
-  unfolding allBySending
-  all-gone [] s g = g
-  all-gone (x ∷ gs) s g = all-gone gs (heardBySending c current s x.header) (heard-gone s x.header g)
+  all_gone : (gs : List Segment) (s : Sending) → Gone n s.outstanding → Gone n (all_by_sending c current s gs).outstanding
+  unfolding all_by_sending
+  all_gone [] s g = g
+  all_gone (x ∷ gs) s g = all_gone gs (heard_by_sending c current s x.header) (heard_gone s x.header g)
 
   -- a number that one of the acks names
-  all-acked : (gs : List Segment) (s : Sending) → occurs n (ackNumbers gs) ≡ true → Gone n (allBySending c current s gs).outstanding
-  unfolding allBySending ackNumbers occurs
-  all-acked [] s h = absurd (let z : ◌≡◌ {A = ℕ} 0 1 = cc in omega arith)
-  all-acked (x ∷ gs) s h = go (eqb x.header.cmd ack) refl h (λ q. all-acked gs (heardBySending c current s x.header) q)
+  all_acked : (gs : List Segment) (s : Sending) → occurs n (ack_numbers gs) ≡ true → Gone n (all_by_sending c current s gs).outstanding
+  unfolding all_by_sending ack_numbers occurs
+  all_acked [] s h = absurd (let z : ◌≡◌ {A = ℕ} 0 1 = cc in omega arith)
+  all_acked (x ∷ gs) s h = go (eqb x.header.cmd ack) refl h (λ q. all_acked gs (heard_by_sending c current s x.header) q)
     where
       there : Sending
-      there = heardBySending c current s x.header
+      there = heard_by_sending c current s x.header
 
-      go : (b : Bool) → eqb x.header.cmd ack ≡ b → occurs n (cond b (x.header.sn ∷ ackNumbers gs) (ackNumbers gs)) ≡ true
-          → (occurs n (ackNumbers gs) ≡ true → Gone n (allBySending c current there gs).outstanding)
-          → Gone n (allBySending c current there gs).outstanding
+      go : (b : Bool) → eqb x.header.cmd ack ≡ b → occurs n (cond b (x.header.sn ∷ ack_numbers gs) (ack_numbers gs)) ≡ true
+          → (occurs n (ack_numbers gs) ≡ true → Gone n (all_by_sending c current there gs).outstanding)
+          → Gone n (all_by_sending c current there gs).outstanding
       go false e h later = later h
       go true e h later = one (eqb n x.header.sn) refl h
         where
-          one : (b : Bool) → eqb n x.header.sn ≡ b → (b || occurs n (ackNumbers gs)) ≡ true
-              → Gone n (allBySending c current there gs).outstanding
-          one true f h = all-gone gs there (acked-gone s x.header e (sym (eqb-true n x.header.sn f)))
+          one : (b : Bool) → eqb n x.header.sn ≡ b → (b || occurs n (ack_numbers gs)) ≡ true
+              → Gone n (all_by_sending c current there gs).outstanding
+          one true f h = all_gone gs there (acked_gone s x.header e (sym (eqb-true n x.header.sn f)))
           one false f h = later h
 
-skip-numbers : (k : ℕ) (l : List Sent)
-    → map (λ (x : Sent). x.record.number) (map (skipBefore k) l) ≡ map (λ (x : Sent). x.record.number) l
-skip-numbers k [] = refl
-skip-numbers k (x ∷ l) = rw (skip-number k x, skip-numbers k l)
+skip_numbers : (k : ℕ) (l : List Sent)
+    → map (λ (x : Sent). x.record.number) (map (skip_before k) l) ≡ map (λ (x : Sent). x.record.number) l
+skip_numbers k [] = refl
+skip_numbers k (x ∷ l) = rw (skip_number k x, skip_numbers k l)
 
-skips-gone : (n : ℕ) (s : Sending) (l : List ℕ) → Gone n s.outstanding → Gone n (skippedByAll s l).outstanding
+skips_gone : (n : ℕ) (s : Sending) (l : List ℕ) → Gone n s.outstanding → Gone n (skipped_by_all s l).outstanding
 unfolding skipped
-skips-gone n s [] h = h
-skips-gone n s (k ∷ l) h = go (not (isBefore (furthest k l) s.una) && isBefore (furthest k l) s.next)
+skips_gone n s [] h = h
+skips_gone n s (k ∷ l) h = go (not (is_before (furthest k l) s.una) && is_before (furthest k l) s.next)
   where
     go : (b : Bool)
-        → Gone n (cond b (withOutstanding s s.una (map (skipBefore (furthest k l)) s.outstanding)) s).outstanding
-    go true = rw (skip-numbers (furthest k l) s.outstanding) h
+        → Gone n (cond b (with_outstanding s s.una (map (skip_before (furthest k l)) s.outstanding)) s).outstanding
+    go true = rw (skip_numbers (furthest k l) s.outstanding) h
     go false = h
 
-applied-gone : (s : State) (pool : List ℕ) (gs : List Segment) (n : ℕ) → occurs n (ackNumbers gs) ≡ true
-    → occurs n (outstandingNumbers (applied s pool gs).state.sending) ≡ false
+applied_gone : (s : State) (pool : List ℕ) (gs : List Segment) (n : ℕ) → occurs n (ack_numbers gs) ≡ true
+    → occurs n (outstanding_numbers (applied s pool gs).state.sending) ≡ false
 unfolding applied
-applied-gone s pool gs n h =
-    skips-gone n (allBySending s.settings s.current s.sending gs) (ackNumbers gs)
-    (all-acked s.settings s.current n gs s.sending h)
+applied_gone s pool gs n h =
+    skips_gone n (all_by_sending s.settings s.current s.sending gs) (ack_numbers gs)
+    (all_acked s.settings s.current n gs s.sending h)
 
 -- ---- the receiving half
 
-held-sum : (r : Receiving) → heldCount r ≡ length r.ready + length r.waiting
-held-sum r = omega (
+held_sum : (r : Receiving) → held_count r ≡ length r.ready + length r.waiting
+held_sum r = omega (
   arith,
   length-append r.ready (map (λ (w : Waiting). w.held) r.waiting),
   length-map r.waiting (λ (w : Waiting). w.held),
 )
 
-moved-held : (r : Receiving) → heldCount (movedUp r) ≡ heldCount r
-moved-held r = ap length (advance-held r.next r.ready r.waiting)
+moved_held : (r : Receiving) → held_count (moved_up r) ≡ held_count r
+moved_held r = ap length (advance_held r.next r.ready r.waiting)
 
-insert-length : (offset : Waiting → ℕ) (a : Waiting) (l : List Waiting) → is_held offset (offset a) l ≡ false
+insert_length : (offset : Waiting → ℕ) (a : Waiting) (l : List Waiting) → is_held offset (offset a) l ≡ false
     → length (insert offset a l) ≡ suc (length l)
 unfolding is_held insert
-insert-length offset a [] h = refl
-insert-length offset a (x ∷ l) h =
+insert_length offset a [] h = refl
+insert_length offset a (x ∷ l) h =
     let p = or_parts (eqb (offset x) (offset a)) (is_held offset (offset a) l) h in
-    rw p.0 (go (ltb (offset a) (offset x)) (insert-length offset a l p.1))
+    rw p.0 (go (ltb (offset a) (offset x)) (insert_length offset a l p.1))
   where
     go : (b : Bool) → length (insert offset a l) ≡ suc (length l)
         → length (cond b (a ∷ x ∷ l) (x ∷ insert offset a l)) ≡ suc (length (x ∷ l))
     go true e = refl
     go false e = ap suc e
 
-new-free : (r : Receiving) (sn : ℕ) → isNew r sn ≡ true → is_held (waitingOffset r.next) (minus sn r.next) r.waiting ≡ false
-new-free r sn = go (not (isBefore sn r.next)) (is_held (waitingOffset r.next) (minus sn r.next) r.waiting)
+new_free : (r : Receiving) (sn : ℕ) → is_new r sn ≡ true → is_held (waiting_offset r.next) (minus sn r.next) r.waiting ≡ false
+new_free r sn = go (not (is_before sn r.next)) (is_held (waiting_offset r.next) (minus sn r.next) r.waiting)
   where
     go : (a b : Bool) → (a && not b) ≡ true → b ≡ false
     go a false e = refl
     go true true e = absurd (let z : ◌≡◌ {A = ℕ} 0 1 = cc in omega arith)
     go false true e = absurd (let z : ◌≡◌ {A = ℕ} 0 1 = cc in omega arith)
 
-kept-held : (m : ℕ) (x : Receiver) (g : Segment) → isNew x.half g.header.sn ≡ true
-    → heldCount (kept m x g).half ≡ suc (heldCount x.half)
-kept-held m x g h =
+kept_held : (m : ℕ) (x : Receiver) (g : Segment) → is_new x.half g.header.sn ≡ true
+    → held_count (kept m x g).half ≡ suc (held_count x.half)
+kept_held m x g h =
     let r = x.half in
-    let slot = lowestFree (slots (receiveHeld r)) receiveSlots in
+    let slot = lowest_free (slots (receive_held r)) receive_slots in
     let w : Waiting = record { number = g.header.sn; held = record { slot = slot; len = g.header.len; fragment = g.header.frg } } in
     omega (
       arith,
-      held-sum (kept m x g).half,
-      held-sum r,
-      insert-length (waitingOffset r.next) w r.waiting (new-free r g.header.sn h),
+      held_sum (kept m x g).half,
+      held_sum r,
+      insert_length (waiting_offset r.next) w r.waiting (new_free r g.header.sn h),
     )
 
-push-held : (m : ℕ) (x : Receiver) (g : Segment)
-    → heldCount (pushed m x g).half ≡ cond (inWindow x.half g.header.sn && isNew x.half g.header.sn) 1 0
-    + heldCount x.half
+push_held : (m : ℕ) (x : Receiver) (g : Segment)
+    → held_count (pushed m x g).half ≡ cond (in_window x.half g.header.sn && is_new x.half g.header.sn) 1 0
+    + held_count x.half
 unfolding pushed
-push-held m x g = go (inWindow x.half g.header.sn) (isNew x.half g.header.sn) refl
+push_held m x g = go (in_window x.half g.header.sn) (is_new x.half g.header.sn) refl
   where
     y : Receiver
-    y = withAcks (noted x.half g.header) x
+    y = with_acks (noted x.half g.header) x
 
-    go : (a b : Bool) → isNew x.half g.header.sn ≡ b
-        → heldCount (movedUp (cond a (cond b (kept m y g) y) x).half) ≡ cond (a && b) 1 0 + heldCount x.half
-    go true true e = moved-held (kept m y g).half ∙ omega (arith, kept-held m y g e)
-    go true false e = moved-held y.half ∙ omega arith
-    go false b e = moved-held x.half ∙ omega arith
+    go : (a b : Bool) → is_new x.half g.header.sn ≡ b
+        → held_count (moved_up (cond a (cond b (kept m y g) y) x).half) ≡ cond (a && b) 1 0 + held_count x.half
+    go true true e = moved_held (kept m y g).half ∙ omega (arith, kept_held m y g e)
+    go true false e = moved_held y.half ∙ omega arith
+    go false b e = moved_held x.half ∙ omega arith
 
-heard-held : (m : ℕ) (x : Receiver) (g : Segment) → heldCount (heardByReceiving m x g).half ≡ cond (isKept x.half g) 1 0
-    + heldCount x.half
-unfolding heardByReceiving
-heard-held m x g = go (eqb g.header.cmd push) (eqb g.header.cmd windowAsk)
+heard_held : (m : ℕ) (x : Receiver) (g : Segment) → held_count (heard_by_receiving m x g).half ≡ cond (is_kept x.half g) 1 0
+    + held_count x.half
+unfolding heard_by_receiving
+heard_held m x g = go (eqb g.header.cmd push) (eqb g.header.cmd window_ask)
   where
     go : (a b : Bool)
-        → heldCount (cond a (pushed m x g) (cond b (asked x) x)).half ≡ cond
-        (a && (inWindow x.half g.header.sn && isNew x.half g.header.sn)) 1 0 + heldCount x.half
-    go true b = push-held m x g
+        → held_count (cond a (pushed m x g) (cond b (asked x) x)).half ≡ cond
+        (a && (in_window x.half g.header.sn && is_new x.half g.header.sn)) 1 0 + held_count x.half
+    go true b = push_held m x g
     go false true = omega arith
     go false false = omega arith
 
-all_held : (m : ℕ) (gs : List Segment) (x : Receiver) → heldCount (allByReceiving m x gs).half ≡ keptOf m x gs + heldCount x.half
-unfolding allByReceiving keptOf
+all_held : (m : ℕ) (gs : List Segment) (x : Receiver) → held_count (all_by_receiving m x gs).half ≡ kept_of m x gs + held_count x.half
+unfolding all_by_receiving kept_of
 all_held m [] x = omega arith
-all_held m (g ∷ gs) x = omega (arith, all_held m gs (heardByReceiving m x g), heard-held m x g)
+all_held m (g ∷ gs) x = omega (arith, all_held m gs (heard_by_receiving m x g), heard_held m x g)
 
 -- ---- from the promise
 
-not-accepted : {A : Type 0} {r : Refusal} → answer.Accepted ≡ answer.Refused r → A
-not-accepted e = absurd (let z : ◌≡◌ {A = ℕ} 0 1 = cc in omega arith)
+not_accepted : {A : Type 0} {r : Refusal} → answer.Accepted ≡ answer.Refused r → A
+not_accepted e = absurd (let z : ◌≡◌ {A = ℕ} 0 1 = cc in omega arith)
 
 module _ (l : Link) (p : Parts) (l' : Link) (p' : Parts) (d : List ℕ) (gs : List Segment)
     (is : parse l.settings.conv (mss l.settings) d ≡ Parsed.segments gs) (h : InputPromise d l p answer.Accepted l' p') where
   -- the state after an accepted datagram is that of its segments applied
-  pub input-applied : stateIn l' p' ≡ (applied (stateIn l p) p.receivePool gs).state
-  unfolding takesInWith input state_of
-  input-applied = go (enough (mss l.settings) (lengthsOf p)) (isMade l p) h.answer h.leaves
+  pub input_applied : state_in l' p' ≡ (applied (state_in l p) p.receive_pool gs).state
+  unfolding takes_in_with input state_of
+  input_applied = go (enough (mss l.settings) (lengths_of p)) (is_made l p) h.answer h.leaves
     where
       go : (long made : Bool) → Accepts answer.Accepted
-          (checked long made (taking (stateIn l p) p.receivePool (parse l.settings.conv (mss l.settings) d)))
-          → InputLeaves (checked long made (taking (stateIn l p) p.receivePool (parse l.settings.conv (mss l.settings) d))) l l' p
+          (checked long made (taking (state_in l p) p.receive_pool (parse l.settings.conv (mss l.settings) d)))
+          → InputLeaves (checked long made (taking (state_in l p) p.receive_pool (parse l.settings.conv (mss l.settings) d))) l l' p
           p'
-          → stateIn l' p' ≡ (applied (stateIn l p) p.receivePool gs).state
-      go true true a q = let t : TookIn (applied (stateIn l p) p.receivePool gs) l' p p' = rw is at q in t.stands.state
-      go true false a q = not-accepted a
-      go false made a q = not-accepted a
+          → state_in l' p' ≡ (applied (state_in l p) p.receive_pool gs).state
+      go true true a q = let t : TookIn (applied (state_in l p) p.receive_pool gs) l' p p' = rw is at q in t.stands.state
+      go true false a q = not_accepted a
+      go false made a q = not_accepted a
 
   -- a number that one of its acks names is not outstanding any more
-  pub acks-remove : (n : ℕ) → occurs n (ackNumbers gs) ≡ true → occurs n (outstandingNumbers (stateIn l' p').sending) ≡ false
-  acks-remove n e = rw input-applied (applied-gone (stateIn l p) p.receivePool gs n e)
+  pub acks_remove : (n : ℕ) → occurs n (ack_numbers gs) ≡ true → occurs n (outstanding_numbers (state_in l' p').sending) ≡ false
+  acks_remove n e = rw input_applied (applied_gone (state_in l p) p.receive_pool gs n e)
 
   -- each of its pushes that is new is held, in its turn
-  pub pushes-kept : heldCount (stateIn l' p').receiving ≡ keptOf (mss l.settings)
-      (record { half = (stateIn l p).receiving; pool = p.receivePool }) gs + heldCount (stateIn l p).receiving
+  pub pushes_kept : held_count (state_in l' p').receiving ≡ kept_of (mss l.settings)
+      (record { half = (state_in l p).receiving; pool = p.receive_pool }) gs + held_count (state_in l p).receiving
   unfolding applied state_of
-  pushes-kept =
-      ap (λ (s : State). heldCount s.receiving) input-applied ∙ all_held (mss l.settings) gs
-      (record { half = (stateIn l p).receiving; pool = p.receivePool })
+  pushes_kept =
+      ap (λ (s : State). held_count s.receiving) input_applied ∙ all_held (mss l.settings) gs
+      (record { half = (state_in l p).receiving; pool = p.receive_pool })

@@ -4,22 +4,22 @@ use Rattle.std.specs.Prelude.{Bool, cond, ◌&&◌, List, [], ◌∷◌, map, �
 use Rattle.protocol.specs.Protocol.{push}
 use Rattle.datagram.specs.Datagrams.{Segment}
 use Rattle.lists.specs.declared.Sent.{Sent}
-use Rattle.session.specs.State.{Sending, Receiving, receiveHeld}
-use Rattle.session.specs.Input.{Receiver, inWindow, isNew, heardByReceiving}
+use Rattle.session.specs.State.{Sending, Receiving, receive_held}
+use Rattle.session.specs.Input.{Receiver, in_window, is_new, heard_by_receiving}
 
 -- the numbers that are outstanding
-abbrev pub outstandingNumbers : Sending → List ℕ
-outstandingNumbers s = map (λ (x : Sent). x.record.number) s.outstanding
+abbrev pub outstanding_numbers : Sending → List ℕ
+outstanding_numbers s = map (λ (x : Sent). x.record.number) s.outstanding
 
 -- how many segments are held, ready or waiting
-abbrev pub heldCount : Receiving → ℕ
-heldCount r = length (receiveHeld r)
+abbrev pub held_count : Receiving → ℕ
+held_count r = length (receive_held r)
 
 -- a push before rcv_nxt + 128 that is new
-abbrev pub isKept : Receiving → Segment → Bool
-isKept r g = eqb g.header.cmd push && (inWindow r g.header.sn && isNew r g.header.sn)
+abbrev pub is_kept : Receiving → Segment → Bool
+is_kept r g = eqb g.header.cmd push && (in_window r g.header.sn && is_new r g.header.sn)
 
 -- how many of a datagram's segments are kept, each in its turn
-unfoldable pub keptOf : ℕ → Receiver → List Segment → ℕ
-keptOf m x [] = 0
-keptOf m x (g ∷ gs) = cond (isKept x.half g) 1 0 + keptOf m (heardByReceiving m x g) gs
+unfoldable pub kept_of : ℕ → Receiver → List Segment → ℕ
+kept_of m x [] = 0
+kept_of m x (g ∷ gs) = cond (is_kept x.half g) 1 0 + kept_of m (heard_by_receiving m x g) gs

@@ -6,76 +6,76 @@ use Rattle.std.specs.Prelude.{◌≡◌, refl, Bool, true, false, List, [], ◌�
 use Rattle.protocol.specs.declared.Settings.{Settings}
 use Rattle.protocol.specs.declared.Refusal.TheVariants.{NoMessage}
 use Rattle.protocol.specs.Protocol.{ack}
-use Rattle.protocol.specs.Serial.{signed, isBefore, isAfter, isDue}
+use Rattle.protocol.specs.Serial.{signed, is_before, is_after, is_due}
 use Rattle.wire.specs.LittleEndian.{bytes_of, number_at}
 use Rattle.wire.specs.declared.Header.{Header}
 use Rattle.wire.specs.Headers.{encode, front, back, decode}
-use Rattle.datagram.specs.Datagrams.{parse, walk, tail, verdict, segmentOf}
-use Rattle.timing.specs.Probes.{longerWait, nextClock}
-use Rattle.timing.specs.RoundTrips.{nextSmoothed, nextVariation, leastTimeout, timeoutOf, sampled}
-use Rattle.retransmission.specs.Transmissions.{firstDue, growth, longerTimeout, isSkipped, transmission}
+use Rattle.datagram.specs.Datagrams.{parse, walk, tail, verdict, segment_of}
+use Rattle.timing.specs.Probes.{longer_wait, next_clock}
+use Rattle.timing.specs.RoundTrips.{next_smoothed, next_variation, least_timeout, timeout_of, sampled}
+use Rattle.retransmission.specs.Transmissions.{first_due, growth, longer_timeout, is_skipped, transmission}
 use Rattle.lists.specs.Orders.{insert, is_held, ascending}
-use Rattle.lists.specs.Receiving.{advance, startsAt}
+use Rattle.lists.specs.Receiving.{advance, starts_at}
 use Rattle.lists.specs.declared.Sent.{Sent}
-use Rattle.lists.specs.Acknowledging.{select, firstNumberOr, skipBefore}
+use Rattle.lists.specs.Acknowledging.{select, first_number_or, skip_before}
 use Rattle.sizes.specs.Sizes.{enough}
 use Rattle.schedule.specs.Schedules as scheduling
-use Rattle.schedule.specs.Schedules.{isAstray, corrected, started, following, ahead, earliest, named}
-use Rattle.session.specs.Slots.{occurs, lowestFrom, lowestFree}
+use Rattle.schedule.specs.Schedules.{is_astray, corrected, started, following, ahead, earliest, named}
+use Rattle.session.specs.Slots.{occurs, lowest_from, lowest_free}
 use Rattle.congestion.specs.Congestions.{
-  usedWindow,
-  slowStart,
+  used_window,
+  slow_start,
   raised,
   widened,
   avoidance,
   limited,
   grown,
-  afterDatagram,
+  after_datagram,
   halved,
-  bySkips,
-  byTimeout,
-  atLeastOne,
-  afterFlush,
+  by_skips,
+  by_timeout,
+  at_least_one,
+  after_flush,
   fits,
 }
-use Rattle.session.specs.State.{Outcome, refused, done, withTimes, withSchedule}
-use Rattle.session.specs.Valid.{numbersFit, waitingFits, settled, sendingValid, receivingValid, valid}
+use Rattle.session.specs.State.{Outcome, refused, done, with_times, with_schedule}
+use Rattle.session.specs.Valid.{numbers_fit, waiting_fits, settled, sending_valid, receiving_valid, valid}
 use Rattle.session.specs.Opening.{opened, opening}
-use Rattle.session.specs.Cutting.{fragmentCount, segmentCount, pieces, cutAs}
+use Rattle.session.specs.Cutting.{fragment_count, segment_count, pieces, cut_as}
 use Rattle.session.specs.Sending.{Sends, place, filled, sending}
 use Rattle.session.specs.Flushing.{
   Flushed,
   numbered,
-  numberedCount,
-  withNumbered,
+  numbered_count,
+  with_numbered,
   transmitted,
   written,
-  bytesOfSegments,
-  packOne,
+  bytes_of_segments,
+  pack_one,
   packed,
   flushing,
 }
 use Rattle.session.specs.Input as Input-of
 use Rattle.session.specs.Input.{
   Took,
-  sampledBy,
-  heardBySending,
+  sampled_by,
+  heard_by_sending,
   pushed,
-  heardByReceiving,
-  allBySending,
-  allByReceiving,
-  ackNumbers,
+  heard_by_receiving,
+  all_by_sending,
+  all_by_receiving,
+  ack_numbers,
   furthest,
   skipped,
   applied,
   input,
 }
 use Rattle.session.specs.Reading as reading-of
-use Rattle.session.specs.Reading.{Reads, joinedIn, message, length_of, messageSize, reading, telling, showing}
+use Rattle.session.specs.Reading.{Reads, joined_in, message, length_of, message_size, reading, telling, showing}
 use Rattle.session.specs.Updating as session
 use Rattle.session.specs.Updating.{updating, checking}
 use Rattle.promises.specs.Promises.{shown, place_of}
-use Rattle.wrong_links.specs.Standing.{Known, Passes, lengthsKnown}
+use Rattle.wrong_links.specs.Standing.{Known, Passes, lengths_known}
 
 -- ---- both ends at first
 
@@ -83,23 +83,23 @@ abbrev pub settings : Settings
 settings = record { conv = 1; mtu = 50; interval = 100; mode = 0; threshold = 2; stream = 0; congestion = 0 }
 
 -- what an opening is lent
-unfoldable pub sendPool : List ℕ
-sendPool = replicate 3328 0
+unfoldable pub send_pool : List ℕ
+send_pool = replicate 3328 0
 
-unfoldable pub receivePool : List ℕ
-receivePool = replicate 6656 0
+unfoldable pub receive_pool : List ℕ
+receive_pool = replicate 6656 0
 
 abbrev pub fresh : Known
-fresh = record { state = opened settings; sendPool = sendPool; receivePool = receivePool }
+fresh = record { state = opened settings; send_pool = send_pool; receive_pool = receive_pool }
 
 -- the result of an outcome that is not refused
-abbrev pub resultOr : {A : Type 0} → A → Outcome A → A
-resultOr x (refused r) = x
-resultOr x (done y) = y
+abbrev pub result_or : {A : Type 0} → A → Outcome A → A
+result_or x (refused r) = x
+result_or x (done y) = y
 
-abbrev pub isDone : {A : Type 0} → Outcome A → Bool
-isDone (refused r) = false
-isDone (done y) = true
+abbrev pub is_done : {A : Type 0} → Outcome A → Bool
+is_done (refused r) = false
+is_done (done y) = true
 
 -- ---- the sender
 
@@ -110,186 +110,186 @@ unfoldable pub second : List ℕ
 second = 9 ∷ []
 
 abbrev pub sends : Known → List ℕ → Sends
-sends k m = resultOr (record { state = k.state; pool = k.sendPool }) (sending k.state k.sendPool m)
+sends k m = result_or (record { state = k.state; pool = k.send_pool }) (sending k.state k.send_pool m)
 
-abbrev pub afterSend : Known → Sends → Known
-afterSend k x = record { state = x.state; sendPool = x.pool; receivePool = k.receivePool }
+abbrev pub after_send : Known → Sends → Known
+after_send k x = record { state = x.state; send_pool = x.pool; receive_pool = k.receive_pool }
 
-unfoldable pub oneSent : Known
-oneSent = afterSend fresh (sends fresh first)
+unfoldable pub one_sent : Known
+one_sent = after_send fresh (sends fresh first)
 
-unfoldable pub bothSent : Known
-bothSent = afterSend oneSent (sends oneSent second)
+unfoldable pub both_sent : Known
+both_sent = after_send one_sent (sends one_sent second)
 
 unfoldable pub flush : Flushed
-flush = flushing bothSent.state 5 bothSent.sendPool
+flush = flushing both_sent.state 5 both_sent.send_pool
 
 unfoldable pub flushed : Known
-flushed = record { state = flush.state; sendPool = bothSent.sendPool; receivePool = bothSent.receivePool }
+flushed = record { state = flush.state; send_pool = both_sent.send_pool; receive_pool = both_sent.receive_pool }
 
 -- its datagrams
 unfoldable pub datagrams : List (List ℕ)
-datagrams = map bytesOfSegments flush.datagrams
+datagrams = map bytes_of_segments flush.datagrams
 
 -- or it updates: the first one flushes, the next waits, and at the next flush time there is nothing to write
 unfoldable pub update : Flushed
-update = flushing (withSchedule bothSent.state (record { next = 105; made = true })) 5 bothSent.sendPool
+update = flushing (with_schedule both_sent.state (record { next = 105; made = true })) 5 both_sent.send_pool
 
 unfoldable pub updated : Known
-updated = record { state = update.state; sendPool = bothSent.sendPool; receivePool = bothSent.receivePool }
+updated = record { state = update.state; send_pool = both_sent.send_pool; receive_pool = both_sent.receive_pool }
 
 unfoldable pub rested : Known
 rested =
     record {
-      state = withTimes updated.state 6 updated.state.schedule;
-      sendPool = updated.sendPool;
-      receivePool = updated.receivePool;
+      state = with_times updated.state 6 updated.state.schedule;
+      send_pool = updated.send_pool;
+      receive_pool = updated.receive_pool;
     }
 
-unfoldable pub laterUpdate : Flushed
-laterUpdate = flushing (withSchedule rested.state (record { next = 205; made = true })) 105 rested.sendPool
+unfoldable pub later_update : Flushed
+later_update = flushing (with_schedule rested.state (record { next = 205; made = true })) 105 rested.send_pool
 
 -- acks of the segments 0 and 1, in one datagram; una is after none
-abbrev pub ackOf : ℕ → Header
-ackOf n = record { conv = 1; cmd = ack; frg = 0; wnd = 128; ts = 5; sn = n; una = 0; len = 0 }
+abbrev pub ack_of : ℕ → Header
+ack_of n = record { conv = 1; cmd = ack; frg = 0; wnd = 128; ts = 5; sn = n; una = 0; len = 0 }
 
 unfoldable pub acks : List ℕ
-acks = encode (ackOf 0) ++ encode (ackOf 1)
+acks = encode (ack_of 0) ++ encode (ack_of 1)
 
 abbrev pub takes : Known → List ℕ → Took
-takes k d = resultOr (record { state = k.state; pool = k.receivePool }) (input k.state k.receivePool d)
+takes k d = result_or (record { state = k.state; pool = k.receive_pool }) (input k.state k.receive_pool d)
 
-abbrev pub afterInput : Known → Took → Known
-afterInput k x = record { state = x.state; sendPool = k.sendPool; receivePool = x.pool }
+abbrev pub after_input : Known → Took → Known
+after_input k x = record { state = x.state; send_pool = k.send_pool; receive_pool = x.pool }
 
 unfoldable pub acknowledged : Known
-acknowledged = afterInput flushed (takes flushed acks)
+acknowledged = after_input flushed (takes flushed acks)
 
 -- ---- the receiver
 
-unfoldable pub oneHeard : Known
-oneHeard = afterInput fresh (takes fresh (get_or datagrams 0 []))
+unfoldable pub one_heard : Known
+one_heard = after_input fresh (takes fresh (get_or datagrams 0 []))
 
-unfoldable pub bothHeard : Known
-bothHeard = afterInput oneHeard (takes oneHeard (get_or datagrams 1 []))
+unfoldable pub both_heard : Known
+both_heard = after_input one_heard (takes one_heard (get_or datagrams 1 []))
 
 -- into a buffer of 30 bytes
 abbrev pub reads : Known → Reads
-reads k = resultOr (record { state = k.state; bytes = [] }) (reading k.state k.receivePool 30)
+reads k = result_or (record { state = k.state; bytes = [] }) (reading k.state k.receive_pool 30)
 
-abbrev pub afterRead : Known → Reads → Known
-afterRead k x = record { state = x.state; sendPool = k.sendPool; receivePool = k.receivePool }
+abbrev pub after_read : Known → Reads → Known
+after_read k x = record { state = x.state; send_pool = k.send_pool; receive_pool = k.receive_pool }
 
-unfoldable pub oneRead : Known
-oneRead = afterRead bothHeard (reads bothHeard)
+unfoldable pub one_read : Known
+one_read = after_read both_heard (reads both_heard)
 
-unfoldable pub bothRead : Known
-bothRead = afterRead oneRead (reads oneRead)
+unfoldable pub both_read : Known
+both_read = after_read one_read (reads one_read)
 
 -- ---- what is computed of them
 
 -- neither 7 nor 13 is given to either
 pub record AllPass : Type 0 where
   pub at_first : Passes fresh
-  pub one-sent : Passes oneSent
-  pub both-sent : Passes bothSent
-  pub one-flushed : Passes flushed
-  pub one-updated : Passes updated
-  pub one-rested : Passes rested
-  pub one-heard : Passes oneHeard
-  pub both-heard : Passes bothHeard
-  pub one-read : Passes oneRead
-  pub both_read : Passes bothRead
+  pub one_sent_lem : Passes one_sent
+  pub both_sent_lem : Passes both_sent
+  pub one_flushed : Passes flushed
+  pub one_updated : Passes updated
+  pub one_rested : Passes rested
+  pub one_heard_lem : Passes one_heard
+  pub both_heard_lem : Passes both_heard
+  pub one_read_lem : Passes one_read
+  pub both_read_lem : Passes both_read
 
 -- each call's outcome
 pub record Computed : Type 0 where
-  pub opens : opening settings (lengthsKnown fresh) ≡ done fresh.state
-  pub sends-first : isDone (sending fresh.state fresh.sendPool first) ≡ true
-  pub sends-second : isDone (sending oneSent.state oneSent.sendPool second) ≡ true
-  pub datagram-count : length flush.datagrams ≡ 2
-  pub datagram-sizes : map (λ (d : List ℕ). length d) datagrams ≡ 50 ∷ 50 ∷ []
-  pub updates-first : updating bothSent.state 5 bothSent.sendPool ≡ session.flushes update
-  pub update-count : length update.datagrams ≡ 2
-  pub update-datagrams : map bytesOfSegments update.datagrams ≡ datagrams
-  pub updates-waiting : updating updated.state 6 updated.sendPool ≡ session.waits rested.state
-  pub updates-later : updating rested.state 105 rested.sendPool ≡ session.flushes laterUpdate
-  pub later-none : laterUpdate.datagrams ≡ []
-  pub checks-first : checking bothSent.state 5 ≡ 5
-  pub checks-later : checking rested.state 6 ≡ 105
-  pub takes-acks : isDone (input flushed.state flushed.receivePool acks) ≡ true
-  pub left-outstanding : map (λ (x : Sent). x.record.number) acknowledged.state.sending.outstanding ≡ 2 ∷ []
-  pub takes_first : isDone (input fresh.state fresh.receivePool (get_or datagrams 0 [])) ≡ true
-  pub size_none : telling oneHeard.state ≡ refused NoMessage
-  pub takes-second : isDone (input oneHeard.state oneHeard.receivePool (get_or datagrams 1 [])) ≡ true
-  pub size-first : telling bothHeard.state ≡ done 27
-  pub shown-first : ((place_of (showing bothHeard.state)).start ≡ 0) ×
-      (shown (showing bothHeard.state) bothHeard.receivePool ≡ replicate 26 7)
-  pub shown-second : ((place_of (showing oneRead.state)).start ≡ 52) × (shown (showing oneRead.state) oneRead.receivePool ≡ second)
-  pub reads_first : isDone (reading bothHeard.state bothHeard.receivePool 30) ≡ true
-  pub message-first : (reads bothHeard).bytes ≡ first
-  pub reads_second : isDone (reading oneRead.state oneRead.receivePool 30) ≡ true
-  pub message-second : (reads oneRead).bytes ≡ second
-  pub reads_none : reading bothRead.state bothRead.receivePool 30 ≡ refused NoMessage
+  pub opens : opening settings (lengths_known fresh) ≡ done fresh.state
+  pub sends_first : is_done (sending fresh.state fresh.send_pool first) ≡ true
+  pub sends_second : is_done (sending one_sent.state one_sent.send_pool second) ≡ true
+  pub datagram_count : length flush.datagrams ≡ 2
+  pub datagram_sizes : map (λ (d : List ℕ). length d) datagrams ≡ 50 ∷ 50 ∷ []
+  pub updates_first : updating both_sent.state 5 both_sent.send_pool ≡ session.flushes update
+  pub update_count : length update.datagrams ≡ 2
+  pub update_datagrams : map bytes_of_segments update.datagrams ≡ datagrams
+  pub updates_waiting : updating updated.state 6 updated.send_pool ≡ session.waits rested.state
+  pub updates_later : updating rested.state 105 rested.send_pool ≡ session.flushes later_update
+  pub later_none : later_update.datagrams ≡ []
+  pub checks_first : checking both_sent.state 5 ≡ 5
+  pub checks_later : checking rested.state 6 ≡ 105
+  pub takes_acks : is_done (input flushed.state flushed.receive_pool acks) ≡ true
+  pub left_outstanding : map (λ (x : Sent). x.record.number) acknowledged.state.sending.outstanding ≡ 2 ∷ []
+  pub takes_first : is_done (input fresh.state fresh.receive_pool (get_or datagrams 0 [])) ≡ true
+  pub size_none : telling one_heard.state ≡ refused NoMessage
+  pub takes_second : is_done (input one_heard.state one_heard.receive_pool (get_or datagrams 1 [])) ≡ true
+  pub size_first : telling both_heard.state ≡ done 27
+  pub shown_first : ((place_of (showing both_heard.state)).start ≡ 0) ×
+      (shown (showing both_heard.state) both_heard.receive_pool ≡ replicate 26 7)
+  pub shown_second : ((place_of (showing one_read.state)).start ≡ 52) × (shown (showing one_read.state) one_read.receive_pool ≡ second)
+  pub reads_first : is_done (reading both_heard.state both_heard.receive_pool 30) ≡ true
+  pub message_first : (reads both_heard).bytes ≡ first
+  pub reads_second : is_done (reading one_read.state one_read.receive_pool 30) ≡ true
+  pub message_second : (reads one_read).bytes ≡ second
+  pub reads_none : reading both_read.state both_read.receive_pool 30 ≡ refused NoMessage
 
 pub all_pass : AllPass
-unfolding usedWindow slowStart raised widened avoidance limited grown afterDatagram halved bySkips byTimeout atLeastOne afterFlush fits
-    sendPool receivePool first second oneSent bothSent flush flushed update updated rested laterUpdate datagrams acks acknowledged oneHeard
-    bothHeard oneRead bothRead opened opening enough signed isBefore isAfter isDue front back encode decode bytes_of number_at verdict
-    segmentOf tail walk parse longerWait nextClock nextSmoothed nextVariation leastTimeout timeoutOf sampled firstDue growth longerTimeout
-    isSkipped transmission select firstNumberOr skipBefore advance startsAt insert is_held ascending fragmentCount segmentCount pieces cutAs
-    filled numbered numberedCount withNumbered transmitted written bytesOfSegments packOne packed flushing Input-of.acknowledged
-    sampledBy heardBySending pushed heardByReceiving allBySending allByReceiving ackNumbers furthest skipped applied input joinedIn message
-    length_of messageSize reading-of.afterRead reading telling showing place sending occurs lowestFrom lowestFree numbersFit waitingFits
-    settled sendingValid receivingValid valid
+unfolding used_window slow_start raised widened avoidance limited grown after_datagram halved by_skips by_timeout at_least_one after_flush fits
+    send_pool receive_pool first second one_sent both_sent flush flushed update updated rested later_update datagrams acks acknowledged one_heard
+    both_heard one_read both_read opened opening enough signed is_before is_after is_due front back encode decode bytes_of number_at verdict
+    segment_of tail walk parse longer_wait next_clock next_smoothed next_variation least_timeout timeout_of sampled first_due growth longer_timeout
+    is_skipped transmission select first_number_or skip_before advance starts_at insert is_held ascending fragment_count segment_count pieces cut_as
+    filled numbered numbered_count with_numbered transmitted written bytes_of_segments pack_one packed flushing Input-of.acknowledged
+    sampled_by heard_by_sending pushed heard_by_receiving all_by_sending all_by_receiving ack_numbers furthest skipped applied input joined_in message
+    length_of message_size reading-of.after_read reading telling showing place sending occurs lowest_from lowest_free numbers_fit waiting_fits
+    settled sending_valid receiving_valid valid
 all_pass = record {
   at_first = record { long = refl; made = refl };
-  one-sent = record { long = refl; made = refl };
-  both-sent = record { long = refl; made = refl };
-  one-flushed = record { long = refl; made = refl };
-  one-updated = record { long = refl; made = refl };
-  one-rested = record { long = refl; made = refl };
-  one-heard = record { long = refl; made = refl };
-  both-heard = record { long = refl; made = refl };
-  one-read = record { long = refl; made = refl };
-  both_read = record { long = refl; made = refl };
+  one_sent_lem = record { long = refl; made = refl };
+  both_sent_lem = record { long = refl; made = refl };
+  one_flushed = record { long = refl; made = refl };
+  one_updated = record { long = refl; made = refl };
+  one_rested = record { long = refl; made = refl };
+  one_heard_lem = record { long = refl; made = refl };
+  both_heard_lem = record { long = refl; made = refl };
+  one_read_lem = record { long = refl; made = refl };
+  both_read_lem = record { long = refl; made = refl };
 }
 
 pub computed : Computed
-unfolding place_of usedWindow slowStart raised widened avoidance limited grown afterDatagram halved bySkips byTimeout atLeastOne afterFlush
-    fits sendPool receivePool first second oneSent bothSent flush flushed update updated rested laterUpdate datagrams acks acknowledged
-    oneHeard bothHeard oneRead bothRead opened opening enough signed isBefore isAfter isDue front back encode decode bytes_of number_at
-    verdict segmentOf tail walk parse longerWait nextClock nextSmoothed nextVariation leastTimeout timeoutOf sampled firstDue growth
-    longerTimeout isSkipped transmission select firstNumberOr skipBefore advance startsAt insert is_held ascending fragmentCount segmentCount
-    pieces cutAs filled numbered numberedCount withNumbered transmitted written bytesOfSegments packOne packed flushing
-    Input-of.acknowledged sampledBy heardBySending pushed heardByReceiving allBySending allByReceiving ackNumbers furthest skipped applied
-    input joinedIn message length_of messageSize reading-of.afterRead reading telling showing place sending occurs lowestFrom lowestFree
-    numbersFit waitingFits settled sendingValid receivingValid valid scheduling.updated isAstray corrected started following ahead earliest
+unfolding place_of used_window slow_start raised widened avoidance limited grown after_datagram halved by_skips by_timeout at_least_one after_flush
+    fits send_pool receive_pool first second one_sent both_sent flush flushed update updated rested later_update datagrams acks acknowledged
+    one_heard both_heard one_read both_read opened opening enough signed is_before is_after is_due front back encode decode bytes_of number_at
+    verdict segment_of tail walk parse longer_wait next_clock next_smoothed next_variation least_timeout timeout_of sampled first_due growth
+    longer_timeout is_skipped transmission select first_number_or skip_before advance starts_at insert is_held ascending fragment_count segment_count
+    pieces cut_as filled numbered numbered_count with_numbered transmitted written bytes_of_segments pack_one packed flushing
+    Input-of.acknowledged sampled_by heard_by_sending pushed heard_by_receiving all_by_sending all_by_receiving ack_numbers furthest skipped applied
+    input joined_in message length_of message_size reading-of.after_read reading telling showing place sending occurs lowest_from lowest_free
+    numbers_fit waiting_fits settled sending_valid receiving_valid valid scheduling.updated is_astray corrected started following ahead earliest
     named updating checking
 computed = record {
   opens = refl;
-  sends-first = refl;
-  sends-second = refl;
-  datagram-count = refl;
-  datagram-sizes = refl;
-  updates-first = refl;
-  update-count = refl;
-  update-datagrams = refl;
-  updates-waiting = refl;
-  updates-later = refl;
-  later-none = refl;
-  checks-first = refl;
-  checks-later = refl;
-  takes-acks = refl;
-  left-outstanding = refl;
+  sends_first = refl;
+  sends_second = refl;
+  datagram_count = refl;
+  datagram_sizes = refl;
+  updates_first = refl;
+  update_count = refl;
+  update_datagrams = refl;
+  updates_waiting = refl;
+  updates_later = refl;
+  later_none = refl;
+  checks_first = refl;
+  checks_later = refl;
+  takes_acks = refl;
+  left_outstanding = refl;
   takes_first = refl;
   size_none = refl;
-  takes-second = refl;
-  size-first = refl;
-  shown-first = (refl, refl);
-  shown-second = (refl, refl);
+  takes_second = refl;
+  size_first = refl;
+  shown_first = (refl, refl);
+  shown_second = (refl, refl);
   reads_first = refl;
-  message-first = refl;
+  message_first = refl;
   reads_second = refl;
-  message-second = refl;
+  message_second = refl;
   reads_none = refl;
 }

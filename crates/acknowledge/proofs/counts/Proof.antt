@@ -4,5 +4,5 @@ use borrow.Author.Rules.{rules}
 use Rattle.acknowledge.proofs.counts.Statement.{statement}
 use Rattle.acknowledge.proofs.counts.Tie as tie
 
-pub counts-spec : {M : Type 1} → statement M
-counts-spec = tie.close (tie.spec (λ c κs. search rules) (λ c κs. search rules) (λ c. cc))
+pub counts_spec : {M : Type 1} → statement M
+counts_spec = tie.close (tie.spec (λ c κs. search rules) (λ c κs. search rules) (λ c. cc))

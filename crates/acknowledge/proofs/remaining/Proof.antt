@@ -8,18 +8,18 @@ use borrow.Author.Rules.{rules}
 use lib.ListN.{length, take, drop, length-set}
 use Rattle.timing.specs.declared.Record.{Record}
 use Rattle.lists.specs.Joining.{joined}
-use Rattle.lists.specs.Acknowledging.{filter, firstNumberOr}
+use Rattle.lists.specs.Acknowledging.{filter, first_number_or}
 use Rattle.lists.specs.declared.Sent.{Sent}
-use Rattle.lists.proofs.Loops.{Packed, packed_start, packed-done}
-use Rattle.lists.proofs.Writes.{select-end}
+use Rattle.lists.proofs.Loops.{Packed, packed_start, packed_done}
+use Rattle.lists.proofs.Writes.{select_end}
 use Rattle.records.specs.Tables.{blank}
-use Rattle.record_words.specs.RecordWords.{recordsIn}
-use Rattle.record_words.specs.RecordLaws.{records-length}
-use Rattle.words.specs.Words.{outstandingIn}
+use Rattle.record_words.specs.RecordWords.{records_in}
+use Rattle.record_words.specs.RecordLaws.{records_length}
+use Rattle.words.specs.Words.{outstanding_in}
 use Rattle.acknowledge.specs.Flights.{JoinedIn}
-use Rattle.acknowledge.specs.Hearing.{staysBy}
-use Rattle.acknowledge.proofs.Hearing.{first-is}
-use Rattle.acknowledge.proofs.Removal.{beside, beside-length, beside-front, in-front, removal-stays, removal-drops}
+use Rattle.acknowledge.specs.Hearing.{stays_by}
+use Rattle.acknowledge.proofs.Hearing.{first_is}
+use Rattle.acknowledge.proofs.Removal.{beside, beside_length, beside_front, in_front_lem, removal_stays, removal_drops}
 use Rattle.acknowledge.proofs.remaining.Statement.{statement}
 use Rattle.acknowledge.proofs.remaining.Tie as tie
 
@@ -28,17 +28,17 @@ invariant-loop words₀ transmissions₀ records₀ n next h i₀ j₀ words tra
     (length words ≡ 32)
     × (length transmissions ≡ 32)
     × (length records ≡ 128)
-    × Packed 32 n (beside words₀ transmissions₀ (recordsIn records₀)) (beside words transmissions (recordsIn records))
-    (filter (staysBy next h) (drop i (take n (beside words₀ transmissions₀ (recordsIn records₀)))))
-    (filter (staysBy next h) (take n (beside words₀ transmissions₀ (recordsIn records₀)))) i j
+    × Packed 32 n (beside words₀ transmissions₀ (records_in records₀)) (beside words transmissions (records_in records))
+    (filter (stays_by next h) (drop i (take n (beside words₀ transmissions₀ (records_in records₀)))))
+    (filter (stays_by next h) (take n (beside words₀ transmissions₀ (records_in records₀)))) i j
 
 abbrev decreases-loop : tie.decreases-loop
 decreases-loop words₀ transmissions₀ records₀ n next h i₀ j₀ words transmissions records i j = n - i
 
 loop-holds : tie.Need-loop-init invariant-loop decreases-loop
 loop-holds c =
-    let many = records-length 32 c.args.records.now c.requires.2 in
-    let long = beside-length _ _ _ _ c.requires.0 c.requires.1 many in
+    let many = records_length 32 c.args.records.now c.requires.2 in
+    let long = beside_length _ _ _ _ c.requires.0 c.requires.1 many in
     (c.requires.0, c.requires.1, c.requires.2, packed_start _ _ _ (search rules) (search rules) (search rules) long)
 
 at-requires : tie.Need-at-requires invariant-loop decreases-loop
@@ -63,7 +63,7 @@ loop-again c =
       simp length-set l.invariant.1,
       c.put.ensures.0,
       rw (c.put.ensures.1, read)
-          (removal-stays _ _ _ _ _ turn.loop-test.true l.invariant.0 l.invariant.1 l.invariant.3
+          (removal_stays _ _ _ _ _ turn.loop-test.true l.invariant.0 l.invariant.1 l.invariant.3
           (rw read at (sym heard.stays.ensures ∙ c.before.before.if1.true))),
     )
 
@@ -76,7 +76,7 @@ loop-again-2 c =
       l.invariant.0,
       l.invariant.1,
       l.invariant.2,
-      removal-drops _ _ _ _ _ turn.loop-test.true l.invariant.0 l.invariant.1 l.invariant.3
+      removal_drops _ _ _ _ _ turn.loop-test.true l.invariant.0 l.invariant.1 l.invariant.3
           (rw read at (sym heard.stays.ensures ∙ c.if1.false)),
     )
 
@@ -88,21 +88,21 @@ returns c =
     let loop = c.before.before.before.before in
     let a = loop.before.args in
     let l = loop.loop.invariant in
-    let records = recordsIn loop.loop.records in
+    let records = records_in loop.loop.records in
     let left : JoinedIn loop.loop.words loop.loop.transmissions loop.loop.j records
-    (filter (staysBy a.next a.h)
-    (joined (outstandingIn a.words.now a.transmissions.now a.n) (recordsIn a.records.now)))
-    = rw (← (beside-front a.words.now a.transmissions.now (recordsIn a.records.now) a.n))
-    (in-front _ _ _ _ _ l.0 l.1 (packed-done (select-end _ _ _ _ c.before.before.before.loop-test.false) l.3)) in
-    let first = first-is loop.loop.words loop.loop.transmissions records loop.loop.j a.next blank
-    l.0 l.1 (records-length 32 _ l.2) in (
+    (filter (stays_by a.next a.h)
+    (joined (outstanding_in a.words.now a.transmissions.now a.n) (records_in a.records.now)))
+    = rw (← (beside_front a.words.now a.transmissions.now (records_in a.records.now) a.n))
+    (in_front_lem _ _ _ _ _ l.0 l.1 (packed_done (select_end _ _ _ _ c.before.before.before.loop-test.false) l.3)) in
+    let first = first_is loop.loop.words loop.loop.transmissions records loop.loop.j a.next blank
+    l.0 l.1 (records_length 32 _ l.2) in (
       left,
-      c.first-number.ensures ∙ rw c.before.at2.ensures first ∙ ap (λ (x : List Sent). firstNumberOr x a.next) left.list,
+      c.first-number.ensures ∙ rw c.before.at2.ensures first ∙ ap (λ (x : List Sent). first_number_or x a.next) left.list,
       l.2,
     )
 
-pub remaining-spec : {M : Type 1} → statement M
-remaining-spec =
+pub remaining_spec : {M : Type 1} → statement M
+remaining_spec =
     tie.close
     (tie.spec
     invariant-loop

@@ -6,26 +6,26 @@ use mathlib.Core.List.{map}
 use native.Mathlib.Omega.{arith}
 use borrow.Author.Rules.{rules}
 use lib.ListN.{length, take, drop, get_or, set}
-use Rattle.lists.proofs.Loops.{Packed, packed_start, packed-done, view-end}
-use Rattle.lists.proofs.Writes.{packed-map}
+use Rattle.lists.proofs.Loops.{Packed, packed_start, packed_done, view_end}
+use Rattle.lists.proofs.Writes.{packed_map}
 use Rattle.records.specs.Tables.{blank}
-use Rattle.record_words.specs.RecordWords.{recordsIn}
-use Rattle.record_words.specs.RecordLaws.{records-length}
-use Rattle.acknowledge.specs.Hearing.{skipRecord}
+use Rattle.record_words.specs.RecordWords.{records_in}
+use Rattle.record_words.specs.RecordLaws.{records_length}
+use Rattle.acknowledge.specs.Hearing.{skip_record}
 use Rattle.acknowledge.proofs.skip_before.Statement.{statement}
 use Rattle.acknowledge.proofs.skip_before.Tie as tie
 
 abbrev invariant-loop : tie.invariant-loop
 invariant-loop records₀ n number i₀ records i =
     (length records ≡ 128)
-    × Packed 32 n (recordsIn records₀) (recordsIn records) (map (skipRecord number) (drop i (take n (recordsIn records₀))))
-    (map (skipRecord number) (take n (recordsIn records₀))) i i
+    × Packed 32 n (records_in records₀) (records_in records) (map (skip_record number) (drop i (take n (records_in records₀))))
+    (map (skip_record number) (take n (records_in records₀))) i i
 
 abbrev decreases-loop : tie.decreases-loop
 decreases-loop records₀ n number i₀ records i = n - i
 
 loop-holds : tie.Need-loop-init invariant-loop decreases-loop
-loop-holds c = (c.requires.0, packed_start _ _ _ (search rules) (search rules) c.requires.1 (records-length 32 _ c.requires.0))
+loop-holds c = (c.requires.0, packed_start _ _ _ (search rules) (search rules) c.requires.1 (records_length 32 _ c.requires.0))
 
 at-requires : tie.Need-at-requires invariant-loop decreases-loop
 at-requires c κs =
@@ -43,17 +43,17 @@ loop-again c =
     let turn = read.before.before in (
       c.put.ensures.0,
       rw (c.put.ensures.1, c.before.skipped.ensures, read.at.ensures)
-          (packed-map blank turn.loop-test.true _ turn.before.loop.invariant.1),
+          (packed_map blank turn.loop-test.true _ turn.before.loop.invariant.1),
     )
 
 returns : tie.Need-returns invariant-loop decreases-loop
 returns c =
     let v = c.before.loop.invariant in
     let all : c.before.loop.i ≡ c.before.before.args.n = search rules in
-    (rw all at (packed-done (rw (view-end _ _ _ c.loop-test.false)) v.1).list, v.0)
+    (rw all at (packed_done (rw (view_end _ _ _ c.loop-test.false)) v.1).list, v.0)
 
-pub skip-before-spec : {M : Type 1} → statement M
-skip-before-spec =
+pub skip_before_spec : {M : Type 1} → statement M
+skip_before_spec =
     tie.close
     (tie.spec
     invariant-loop

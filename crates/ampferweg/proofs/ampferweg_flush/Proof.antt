@@ -140,32 +140,32 @@ use Rattle.records.proofs.Walk.{
   fat,
   exec,
 }
-use Rattle.records.proofs.Call.{calls-fn, plainly}
+use Rattle.records.proofs.Call.{calls_fn, plainly}
 use Rattle.records.proofs.Shared.{LentShared, lends_shared, shared_back}
 use Rattle.records.proofs.Rows.{R}
-use Rattle.lending.proofs.Fields.{ref-at, lend-mut, back-mut, lend-shr, back_shr, cell_out, cell_in, tells-length, lend-whole, back_whole}
-use Rattle.lending.proofs.Locals.{envAt, allocates, frees_all, holds, empty}
+use Rattle.lending.proofs.Fields.{ref_at, lend_mut, back_mut, lend_shr, back_shr, cell_out, cell_in, tells_length, lend_whole, back_whole}
+use Rattle.lending.proofs.Locals.{env_at, allocates, frees_all, holds, empty}
 use Rattle.lending.proofs.Parts.{behind, spread, same}
 use Rattle.lending.proofs.Block.{
   L,
   Open,
   Back,
-  link-own,
-  link-shr,
-  opens-link,
-  closes-link,
-  looks-link,
-  shuts-link,
-  place-settings,
-  place-flight,
-  place-arrival,
-  place-clock,
-  place-queued,
-  place-outstanding,
-  place-transmissions,
-  place-ready,
-  place-waiting,
-  place-waiting-numbers,
+  link_own,
+  link_shr,
+  opens_link,
+  closes_link,
+  looks_link,
+  shuts_link,
+  place_settings,
+  place_flight,
+  place_arrival,
+  place_clock,
+  place_queued,
+  place_outstanding,
+  place_transmissions,
+  place_ready,
+  place_waiting,
+  place_waiting_numbers,
 }
 use Rattle.control.specs.declared.Link.{Link}
 use Rattle.timing.specs.declared.Record.{Record}
@@ -195,10 +195,10 @@ use denote.Triple.Walked.{stay_ref, Goes-ref, gave_ref, Goes-gave_ref, stay_drop
 use mathlib.Core.Path.{subst}
 use mathlib.Core.Bool.{Bool, false}
 use denote.Plain.{Boolean, bool_Lawful, bool_Makes}
-use Rattle.promises.specs.Parts.{parts_of, flushPartsOf}
+use Rattle.promises.specs.Parts.{parts_of, flush_parts_of}
 use Rattle.promises.specs.Promises.{FlushPromise}
 use Rattle.write_out.specs.Written.{WrittenOut}
-use Rattle.codes.specs.Codes.{countCode}
+use Rattle.codes.specs.Codes.{count_code}
 use Rattle.codes.specs.Gives.{Gives}
 use Rattle.results.specs.contracts.at_once as paced-of
 use Rattle.results.proofs.at_once.Symbol as paced-of-def
@@ -299,8 +299,8 @@ module _ {M : Type 1} {𝓤 : Ura M} (𝓛 : Logic 𝓤) (at_mem : Memory → SP
         (((κ₀, (κ₁, (κ₂, (κ₃, (κ₄, (κ₅, (κ₆, tt))))))), (q₀, (q₁, (q₂, (q₃, (q₄, (q₅, (q₆, tt))))))), tt, x, at), tt)
 
     -- what writing is called at, and that what it asks is had
-    abbrev to-writing : (y₀ : Bool) (u₀ : Val) (y₁ : ℕ) (u₁ : Val) → (triple_of 𝓛 writing.signature (writing.spec 𝓛 at_mem run)).Ghost
-    to-writing y₀ u₀ y₁ u₁ = (
+    abbrev to_writing : (y₀ : Bool) (u₀ : Val) (y₁ : ℕ) (u₁ : Val) → (triple_of 𝓛 writing.signature (writing.spec 𝓛 at_mem run)).Ghost
+    to_writing y₀ u₀ y₁ u₁ = (
       (
         (κ₀, (κ₁, (κ₂, (κ₃, (κ₄, (κ₅, (κ₆, tt))))))),
         (q₀, (q₁, (q₂, (q₃, (q₄, (q₅, (q₆, tt))))))),
@@ -311,11 +311,11 @@ module _ {M : Type 1} {𝓤 : Ura M} (𝓛 : Logic 𝓤) (at_mem : Memory → SP
       tt,
     )
 
-    asks-writing : (y₀ : Bool) (u₀ : Val) → Is Boolean y₀ (u₀ ∷ []) → (y₁ : ℕ) (u₁ : Val) → Is u32 y₁ (u₁ ∷ [])
+    asks_writing : (y₀ : Bool) (u₀ : Val) → Is Boolean y₀ (u₀ ∷ []) → (y₁ : ℕ) (u₁ : Val) → Is u32 y₁ (u₁ ∷ [])
         → ent 𝓤 (⋆ 𝓛 (‵ (flft κ₀ q₀) ∷ ‵ Own₀ ∷ ‵ (flft κ₁ q₁) ∷ ‵ Own₁ ∷ ‵ (flft κ₂ q₂) ∷ ‵ Own₂
         ∷ ‵ (flft κ₃ q₃) ∷ ‵ Own₃ ∷ ‵ (flft κ₄ q₄) ∷ ‵ Own₄ ∷ ‵ (flft κ₅ q₅) ∷ ‵ Own₆ ∷ ‵ (flft κ₆ q₆)
-        ∷ ‵ Own₇ ∷ [])) ((triple_of 𝓛 writing.signature (writing.spec 𝓛 at_mem run)).pre (to-writing y₀ u₀ y₁ u₁))
-    asks-writing y₀ u₀ is₀ y₁ u₁ is₁ =
+        ∷ ‵ Own₇ ∷ [])) ((triple_of 𝓛 writing.signature (writing.spec 𝓛 at_mem run)).pre (to_writing y₀ u₀ y₁ u₁))
+    asks_writing y₀ u₀ is₀ y₁ u₁ is₁ =
         qed 𝓛 (‵ (flft κ₀ q₀) ∷ ‵ Own₀ ∷ ‵ (flft κ₁ q₁) ∷ ‵ Own₁ ∷ ‵ (flft κ₂ q₂) ∷ ‵ Own₂ ∷ ‵ (flft κ₃ q₃)
         ∷ ‵ Own₃ ∷ ‵ (flft κ₄ q₄) ∷ ‵ Own₄ ∷ ‵ (flft κ₅ q₅) ∷ ‵ Own₆ ∷ ‵ (flft κ₆ q₆) ∷ ‵ Own₇ ∷ [])
         ∵ nothing ! $ move ! (13 ∷ 0 ∷ []) $ join ! $ move ! (11 ∷ 0 ∷ []) $ join ! $ move ! (9 ∷ 0 ∷ []) $ join ! $
@@ -332,8 +332,8 @@ module _ {M : Type 1} {𝓤 : Ura M} (𝓛 : Logic 𝓤) (at_mem : Memory → SP
 
     -- what the contract says
     abbrev Said : (r : ℤ) (z₀ : Link) (z₃ : List Record) (z₆ : List ℕ) (z₇ : List ℕ) → Type 0
-    Said r z₀ z₃ z₆ z₇ = Gives countCode (λ a. FlushPromise x₅ x₀.now (parts_of x₁.now x₂.now x₃.now x₄.now)
-        (flushPartsOf x₆.now x₇.now) a z₀ (parts_of x₁.now x₂.now z₃ x₄.now) (flushPartsOf z₆ z₇)) r
+    Said r z₀ z₃ z₆ z₇ = Gives count_code (λ a. FlushPromise x₅ x₀.now (parts_of x₁.now x₂.now x₃.now x₄.now)
+        (flush_parts_of x₆.now x₇.now) a z₀ (parts_of x₁.now x₂.now z₃ x₄.now) (flush_parts_of z₆ z₇)) r
 
     exits : (r : ℤ) (w : Val) (z₀ : Link) (z₃ : List Record) (z₆ : List ℕ) (z₇ : List ℕ) → Said r z₀ z₃ z₆ z₇
         → length z₃ ≡ length x₃.now → length z₆ ≡ length x₆.now → length z₇ ≡ length x₇.now → Is i32 r (w ∷ [])
@@ -352,14 +352,14 @@ module _ {M : Type 1} {𝓤 : Ura M} (𝓛 : Logic 𝓤) (at_mem : Memory → SP
     module _ (C : Calls 𝓤 H) (Λ : Loops 𝓤 H) (fm : FmC 𝓤 H 𝓛.laws C) (known : Known C) where
       -- where the locals lie
       abbrev En : (ℕ → ℕ) → Env 𝓤 H
-      En p = envAt (code.function).locals p
+      En p = env_at (code.function).locals p
 
       -- part 1: what it knows, what it tells; what it has, and leaves
       abbrev Known₁ : Type 0
       Known₁ = Unit {0}
 
       abbrev New₁ : Known₁ → Type 0
-      New₁ past = (b : Bool) × (w-b : Val) × (e-b : b ≡ false) × (Is Boolean b (w-b ∷ []))
+      New₁ past = (b : Bool) × (w_b : Val) × (e_b : b ≡ false) × (Is Boolean b (w_b ∷ []))
 
       abbrev Has₁ : (ℕ → ℕ) → Known₁ → List (Item 𝓤) → List (Item 𝓤)
       Has₁ p past Γ = ‵ (froom ty_bool (p 9) 0) ∷ Γ
@@ -373,22 +373,22 @@ module _ {M : Type 1} {𝓤 : Ura M} (𝓛 : Logic 𝓤) (at_mem : Memory → SP
       part₁ {Γ = Γ} t p past on = record {
         prf =
             qed 𝓛 (Has₁ p past Γ) ∵ exec ! C Λ (En p) (behind 0 (code.function).body) (at_ret (En p) Post) $
-            nothing ! $ calls-fn ! fm paced-of.ended (paced-of.clauses 𝓛 at_mem run) known.0 ((tt, tt, tt, tt, tt), tt)
+            nothing ! $ calls_fn ! fm paced-of.ended (paced-of.clauses 𝓛 at_mem run) known.0 ((tt, tt, tt, tt, tt), tt)
             (λ b _. b ≡ false)
             (‵ ftrue) (plainly 𝓛 ([]) tt tt tt tt) (λ b _. id⊢ 𝓤 _)
-            (no_more !) (λ b w-b _ e-b is_b. drop ! $ drop ! $
+            (no_more !) (λ b w_b _ e_b is_b. drop ! $ drop ! $
             land ! (from ! (stop !)) (init ! 0 refl ((bool_Lawful 𝓛).typed b _ is_b).0) $
-            same ! (on (b, w-b, e-b, is_b)));
+            same ! (on (b, w_b, e_b, is_b)));
       }
 
       -- part 2: what it knows, what it tells; what it has, and leaves
       abbrev Known₂ : Type 0
-      Known₂ = (b : Bool) × (w-b : Val) × (Is Boolean b (w-b ∷ []))
+      Known₂ = (b : Bool) × (w_b : Val) × (Is Boolean b (w_b ∷ []))
 
       abbrev New₂ : Known₂ → Type 0
-      New₂ past = (z₇ : List ℕ) × (z₆ : List ℕ) × (z₃ : List Record) × (z₀ : Link) × (r : ℤ) × (w-r : Val) ×
-          (e-r : WrittenOut past.0 x₅ x₀.now (parts_of x₁.now x₂.now x₃.now x₄.now) (flushPartsOf x₆.now x₇.now) z₀
-          (parts_of x₁.now x₂.now z₃ x₄.now) (flushPartsOf z₆ z₇) r) × (is-r : Is i32 r (w-r ∷ [])) ×
+      New₂ past = (z₇ : List ℕ) × (z₆ : List ℕ) × (z₃ : List Record) × (z₀ : Link) × (r : ℤ) × (w_r : Val) ×
+          (e_r : WrittenOut past.0 x₅ x₀.now (parts_of x₁.now x₂.now x₃.now x₄.now) (flush_parts_of x₆.now x₇.now) z₀
+          (parts_of x₁.now x₂.now z₃ x₄.now) (flush_parts_of z₆ z₇) r) × (is_r : Is i32 r (w_r ∷ [])) ×
           (len₃ : length z₃ ≡ length x₃.now) × (len₆ : length z₆ ≡ length x₆.now) × (length z₇ ≡ length x₇.now)
 
       abbrev Has₂ : (ℕ → ℕ) → Known₂ → List (Item 𝓤) → List (Item 𝓤)
@@ -452,13 +452,13 @@ module _ {M : Type 1} {𝓤 : Ura M} (𝓛 : Logic 𝓤) (at_mem : Memory → SP
             (and_then ! (load ! (from ! (fld ! refl (stop !))) (look_in ! 22 (sub ! 1 refl (whole !)))) (no_more !)))) (from ! (stop !))
             (init ! 15 refl (tt, (tt, (record { fits = room₇.0 }, tt)))) $
             move ! (1 ∷ 8 ∷ 2 ∷ 9 ∷ 3 ∷ 10 ∷ 4 ∷ 11 ∷ 5 ∷ 12 ∷ 6 ∷ 13 ∷ 7 ∷ 14 ∷ []) $ group ! 14 $
-            calls-fn ! fm writing.ended (writing.clauses 𝓛 at_mem run) known.1 (to-writing past.0 past.1 x₅ v₅)
+            calls_fn ! fm writing.ended (writing.clauses 𝓛 at_mem run) known.1 (to_writing past.0 past.1 x₅ v₅)
             (λ r ws-r. WrittenOut past.0 x₅ x₀.now (parts_of x₁.now x₂.now x₃.now x₄.now)
-            (flushPartsOf x₆.now x₇.now) ws-r.0 (parts_of x₁.now x₂.now ws-r.1.1.1.0 x₄.now)
-            (flushPartsOf ws-r.1.1.1.1.1.1.1.0 ws-r.1.1.1.1.1.1.1.1.0) r)
+            (flush_parts_of x₆.now x₇.now) ws-r.0 (parts_of x₁.now x₂.now ws-r.1.1.1.0 x₄.now)
+            (flush_parts_of ws-r.1.1.1.1.1.1.1.0 ws-r.1.1.1.1.1.1.1.1.0) r)
             (‵ (flft κ₀ q₀) ⊛ ‵ Own₀ ⊛ ‵ (flft κ₁ q₁) ⊛ ‵ Own₁ ⊛ ‵ (flft κ₂ q₂) ⊛ ‵ Own₂ ⊛ ‵ (flft κ₃ q₃)
             ⊛ ‵ Own₃ ⊛ ‵ (flft κ₄ q₄) ⊛ ‵ Own₄ ⊛ ‵ (flft κ₅ q₅) ⊛ ‵ Own₆ ⊛ ‵ (flft κ₆ q₆) ⊛ ‵ Own₇)
-            (asks-writing past.0 past.1 past.2 x₅ v₅ g₅) (λ r ws-r. id⊢ 𝓤 _)
+            (asks_writing past.0 past.1 past.2 x₅ v₅ g₅) (λ r ws-r. id⊢ 𝓤 _)
             (and_then ! (load ! (from ! (stop !)) (look ! 8 refl))
             (and_then ! (load ! (from ! (stop !)) (look ! 15 refl))
             (and_then ! (load ! (from ! (stop !)) (look ! 14 refl))
@@ -467,7 +467,7 @@ module _ {M : Type 1} {𝓤 : Ura M} (𝓛 : Logic 𝓤) (at_mem : Memory → SP
             (and_then ! (load ! (from ! (stop !)) (look ! 1 refl))
             (and_then ! (load ! (from ! (stop !)) (look ! 11 refl))
             (and_then ! (load ! (from ! (stop !)) (look ! 4 refl)) (and_then ! (load ! (from ! (stop !)) (look ! 2 refl)) (no_more !))))))))))
-            (λ r w-r ws-r e-r is-r. land ! (from ! (stop !)) (init ! 18 refl ((sint_Lawful 𝓛 w32).typed r _ is-r).0) $
+            (λ r w_r ws-r e_r is_r. land ! (from ! (stop !)) (init ! 18 refl ((sint_Lawful 𝓛 w32).typed r _ is_r).0) $
             spread 𝓛 (‵ (flft κ₀ q₀)) (‵ (flft κ₁ q₁) ∷ ‵ (flft κ₂ q₂) ∷ ‵ (flft κ₃ q₃) ∷ ‵ (flft κ₄ q₄)
             ∷ ‵ (flft κ₅ q₅) ∷ ‵ (flft κ₆ q₆) ∷ ‵ ftrue ∷ []) (id⊢ 𝓤 _) $ move ! (8 ∷ []) $
             spread 𝓛 (‵ (fres x₀.name (L.coded.code ws-r.0)))
@@ -486,9 +486,9 @@ module _ {M : Type 1} {𝓤 : Ura M} (𝓛 : Logic 𝓤) (at_mem : Memory → SP
               ws-r.1.1.1.0,
               ws-r.0,
               r,
-              w-r,
-              e-r,
-              is-r,
+              w_r,
+              e_r,
+              is_r,
               len₃,
               len₆,
               len₇,
@@ -533,8 +533,8 @@ module _ {M : Type 1} {𝓤 : Ura M} (𝓛 : Logic 𝓤) (at_mem : Memory → SP
           ∷ holds (s₇) ∷ []) $
           move ! (3 ∷ 4 ∷ 5 ∷ 6 ∷ 2 ∷ 7 ∷ 8 ∷ 1 ∷ 9 ∷ 0 ∷ 10 ∷ []) $
           by ! (exits new₂.4 new₂.5 (new₂.3) (new₂.2) (new₂.1) (new₂.0)
-          (subst (λ y. WrittenOut y x₅ x₀.now (parts_of x₁.now x₂.now x₃.now x₄.now) (flushPartsOf x₆.now x₇.now)
-          new₂.3 (parts_of x₁.now x₂.now new₂.2 x₄.now) (flushPartsOf new₂.1 new₂.0) new₂.4) new₁.2 new₂.6)
+          (subst (λ y. WrittenOut y x₅ x₀.now (parts_of x₁.now x₂.now x₃.now x₄.now) (flush_parts_of x₆.now x₇.now)
+          new₂.3 (parts_of x₁.now x₂.now new₂.2 x₄.now) (flush_parts_of new₂.1 new₂.0) new₂.4) new₁.2 new₂.6)
           new₂.8 new₂.9 new₂.10 new₂.7))))
 
   f_meets : (𝓣 : Tables 𝓤 H) → Known 𝓣.C
@@ -592,9 +592,9 @@ module _ {M : Type 1} {𝓤 : Ura M} (𝓛 : Logic 𝓤) (at_mem : Memory → SP
       are.1.1.1.1.1.1.0.0.1 a.1.1.1.1.1.1.1.0 are.1.1.1.1.1.1.1.0.0.1 𝓣.C 𝓣.Λ (fm_of 𝓤 H 𝓛.laws 𝓣)
       known)))
 
-pub ampferweg-flush-spec : {M : Type 1} → stated.statement M
+pub ampferweg_flush_spec : {M : Type 1} → stated.statement M
 unfolding code.routine tables_of
-ampferweg-flush-spec 𝓤 𝓛 𝓜 𝓡 =
+ampferweg_flush_spec 𝓤 𝓛 𝓜 𝓡 =
     entered 𝓤 𝓛.H (triple_of 𝓛 f.signature (f.spec 𝓛 𝓜.mem 𝓡.run))
     (tables 𝓤 𝓛.H 𝓜 𝓡 code.env).C (tables 𝓤 𝓛.H 𝓜 𝓡 code.env).Λ #f code.function (code.unfolded 𝓤 𝓛.H 𝓜 𝓡)
     (f_meets 𝓛 𝓜.mem 𝓡.run (tables_of 𝓤 𝓛.H 𝓜 (tables 𝓤 𝓛.H 𝓜 𝓡 code.env)) (

@@ -140,32 +140,32 @@ use Rattle.records.proofs.Walk.{
   fat,
   exec,
 }
-use Rattle.records.proofs.Call.{calls-fn, plainly}
+use Rattle.records.proofs.Call.{calls_fn, plainly}
 use Rattle.records.proofs.Shared.{LentShared, lends_shared, shared_back}
 use Rattle.records.proofs.Rows.{R}
-use Rattle.lending.proofs.Fields.{ref-at, lend-mut, back-mut, lend-shr, back_shr, cell_out, cell_in, tells-length, lend-whole, back_whole}
-use Rattle.lending.proofs.Locals.{envAt, allocates, frees_all, holds, empty}
+use Rattle.lending.proofs.Fields.{ref_at, lend_mut, back_mut, lend_shr, back_shr, cell_out, cell_in, tells_length, lend_whole, back_whole}
+use Rattle.lending.proofs.Locals.{env_at, allocates, frees_all, holds, empty}
 use Rattle.lending.proofs.Parts.{behind, spread, same}
 use Rattle.lending.proofs.Block.{
   L,
   Open,
   Back,
-  link-own,
-  link-shr,
-  opens-link,
-  closes-link,
-  looks-link,
-  shuts-link,
-  place-settings,
-  place-flight,
-  place-arrival,
-  place-clock,
-  place-queued,
-  place-outstanding,
-  place-transmissions,
-  place-ready,
-  place-waiting,
-  place-waiting-numbers,
+  link_own,
+  link_shr,
+  opens_link,
+  closes_link,
+  looks_link,
+  shuts_link,
+  place_settings,
+  place_flight,
+  place_arrival,
+  place_clock,
+  place_queued,
+  place_outstanding,
+  place_transmissions,
+  place_ready,
+  place_waiting,
+  place_waiting_numbers,
 }
 use Rattle.control.specs.declared.Link.{Link}
 use Rattle.timing.specs.declared.Record.{Record}
@@ -194,7 +194,7 @@ use denote.Enum.Laws as EL
 use denote.Triple.Walked.{stay_ref, Goes-ref, gave_ref, Goes-gave_ref, stay_dropped, Goes-dropped}
 use Rattle.promises.specs.Parts.{parts_of}
 use Rattle.promises.specs.Promises.{OpenPromise}
-use Rattle.codes.specs.Codes.{answerCode, settingsOf}
+use Rattle.codes.specs.Codes.{answer_code, settings_of}
 use Rattle.codes.specs.Gives.{Gives}
 use Rattle.local_calls.specs.contracts.open as call
 use Rattle.local_calls.proofs.open.Symbol as call-def
@@ -294,9 +294,9 @@ module _ {M : Type 1} {𝓤 : Ura M} (𝓛 : Logic 𝓤) (at_mem : Memory → SP
         (((κ₀, (κ₁, (κ₂, (κ₃, (κ₄, tt))))), (q₀, (q₁, (q₂, (q₃, (q₄, tt))))), tt, x, at), tt)
 
     -- what call is called at, and that what it asks is had
-    abbrev to-call : (y₀ : ℕ) (u₀ : Val) (y₁ : ℕ) (u₁ : Val) (y₂ : ℕ) (u₂ : Val) (y₃ : ℕ) (u₃ : Val) (y₄ : ℕ) (u₄ : Val)
+    abbrev to_call : (y₀ : ℕ) (u₀ : Val) (y₁ : ℕ) (u₁ : Val) (y₂ : ℕ) (u₂ : Val) (y₃ : ℕ) (u₃ : Val) (y₄ : ℕ) (u₄ : Val)
         (y₅ : ℕ) (u₅ : Val) (y₆ : ℕ) (u₆ : Val) → (triple_of 𝓛 call.signature (call.spec 𝓛 at_mem run)).Ghost
-    to-call y₀ u₀ y₁ u₁ y₂ u₂ y₃ u₃ y₄ u₄ y₅ u₅ y₆ u₆ = (
+    to_call y₀ u₀ y₁ u₁ y₂ u₂ y₃ u₃ y₄ u₄ y₅ u₅ y₆ u₆ = (
       (
         (κ₀, (κ₁, (κ₂, (κ₃, (κ₄, tt))))),
         (q₀, (q₁, (q₂, (q₃, (q₄, tt))))),
@@ -319,13 +319,13 @@ module _ {M : Type 1} {𝓤 : Ura M} (𝓛 : Logic 𝓤) (at_mem : Memory → SP
       tt,
     )
 
-    asks-call : (y₀ : ℕ) (u₀ : Val) → Is u32 y₀ (u₀ ∷ []) → (y₁ : ℕ) (u₁ : Val) → Is u32 y₁ (u₁ ∷ [])
+    asks_call : (y₀ : ℕ) (u₀ : Val) → Is u32 y₀ (u₀ ∷ []) → (y₁ : ℕ) (u₁ : Val) → Is u32 y₁ (u₁ ∷ [])
         → (y₂ : ℕ) (u₂ : Val) → Is u32 y₂ (u₂ ∷ []) → (y₃ : ℕ) (u₃ : Val) → Is u32 y₃ (u₃ ∷ []) → (y₄ : ℕ) (u₄ : Val)
         → Is u32 y₄ (u₄ ∷ []) → (y₅ : ℕ) (u₅ : Val) → Is u32 y₅ (u₅ ∷ []) → (y₆ : ℕ) (u₆ : Val) → Is u32 y₆ (u₆ ∷ [])
         → ent 𝓤 (⋆ 𝓛 (‵ (flft κ₀ q₀) ∷ ‵ Own₀ ∷ ‵ (flft κ₁ q₁) ∷ ‵ Own₈ ∷ ‵ (flft κ₂ q₂) ∷ ‵ Own₉
         ∷ ‵ (flft κ₃ q₃) ∷ ‵ Own₁₀ ∷ ‵ (flft κ₄ q₄) ∷ ‵ Own₁₁ ∷ []))
-        ((triple_of 𝓛 call.signature (call.spec 𝓛 at_mem run)).pre (to-call y₀ u₀ y₁ u₁ y₂ u₂ y₃ u₃ y₄ u₄ y₅ u₅ y₆ u₆))
-    asks-call y₀ u₀ is₀ y₁ u₁ is₁ y₂ u₂ is₂ y₃ u₃ is₃ y₄ u₄ is₄ y₅ u₅ is₅ y₆ u₆ is₆ =
+        ((triple_of 𝓛 call.signature (call.spec 𝓛 at_mem run)).pre (to_call y₀ u₀ y₁ u₁ y₂ u₂ y₃ u₃ y₄ u₄ y₅ u₅ y₆ u₆))
+    asks_call y₀ u₀ is₀ y₁ u₁ is₁ y₂ u₂ is₂ y₃ u₃ is₃ y₄ u₄ is₄ y₅ u₅ is₅ y₆ u₆ is₆ =
         qed 𝓛 (‵ (flft κ₀ q₀) ∷ ‵ Own₀ ∷ ‵ (flft κ₁ q₁) ∷ ‵ Own₈ ∷ ‵ (flft κ₂ q₂) ∷ ‵ Own₉ ∷ ‵ (flft κ₃ q₃)
         ∷ ‵ Own₁₀ ∷ ‵ (flft κ₄ q₄) ∷ ‵ Own₁₁ ∷ []) ∵ nothing ! $ move ! (9 ∷ 0 ∷ []) $ join ! $ move ! (7 ∷ 0 ∷ []) $
         join ! $ move ! (5 ∷ 0 ∷ []) $ join ! $ move ! (3 ∷ 0 ∷ []) $ join ! $ move ! (1 ∷ 0 ∷ []) $ join ! $ nothing ! $
@@ -343,7 +343,7 @@ module _ {M : Type 1} {𝓤 : Ura M} (𝓛 : Logic 𝓤) (at_mem : Memory → SP
 
     -- what the contract says
     abbrev Said : (r : ℤ) (z₀ : Link) → Type 0
-    Said r z₀ = Gives answerCode (λ a. OpenPromise (settingsOf x₁ x₂ x₃ x₄ x₅ x₆ x₇) x₀.now
+    Said r z₀ = Gives answer_code (λ a. OpenPromise (settings_of x₁ x₂ x₃ x₄ x₅ x₆ x₇) x₀.now
         (parts_of x₈.now x₉.now x₁₀.now x₁₁.now) a z₀ (parts_of x₈.now x₉.now x₁₀.now x₁₁.now)) r
 
     exits : (r : ℤ) (w : Val) (z₀ : Link) → Said r z₀ → Is i32 r (w ∷ []) → ent 𝓤 (⋆ 𝓛 (Had z₀)) (Post w)
@@ -362,17 +362,17 @@ module _ {M : Type 1} {𝓤 : Ura M} (𝓛 : Logic 𝓤) (at_mem : Memory → SP
     module _ (C : Calls 𝓤 H) (Λ : Loops 𝓤 H) (fm : FmC 𝓤 H 𝓛.laws C) (known : Known C) where
       -- where the locals lie
       abbrev En : (ℕ → ℕ) → Env 𝓤 H
-      En p = envAt (code.function).locals p
+      En p = env_at (code.function).locals p
 
       -- part 1: what it knows, what it tells; what it has, and leaves
       abbrev Known₁ : Type 0
       Known₁ = Unit {0}
 
       abbrev New₁ : Known₁ → Type 0
-      New₁ past = (z₀ : Link) × (r : ℤ) × (w-r : Val) ×
-          (e-r : Gives answerCode (λ a. OpenPromise (settingsOf x₁ x₂ x₃ x₄ x₅ x₆ x₇) x₀.now
+      New₁ past = (z₀ : Link) × (r : ℤ) × (w_r : Val) ×
+          (e_r : Gives answer_code (λ a. OpenPromise (settings_of x₁ x₂ x₃ x₄ x₅ x₆ x₇) x₀.now
           (parts_of x₈.now x₉.now x₁₀.now x₁₁.now) a z₀ (parts_of x₈.now x₉.now x₁₀.now x₁₁.now)) r) ×
-          (Is i32 r (w-r ∷ []))
+          (Is i32 r (w_r ∷ []))
 
       abbrev Has₁ : (ℕ → ℕ) → Known₁ → List (Item 𝓤) → List (Item 𝓤)
       Has₁ p past Γ = ‵ (flft κ₀ q₀) ∷ ‵ (flft κ₁ q₁) ∷ ‵ (flft κ₂ q₂) ∷ ‵ (flft κ₃ q₃) ∷ ‵ (flft κ₄ q₄)
@@ -407,13 +407,13 @@ module _ {M : Type 1} {𝓤 : Ura M} (𝓛 : Logic 𝓤) (at_mem : Memory → SP
             qed 𝓛 (Has₁ p past Γ) ∵ exec ! C Λ (En p) (behind 0 (code.function).body) (at_ret (En p) Post) $
             assigns ! {v = s₀} (addr ! (from ! (hop ! (look ! 22 refl) (stop !)))) (from ! (stop !)) (init ! 10 refl (tt, tt)) $
             move ! (0 ∷ 5 ∷ 1 ∷ 6 ∷ 2 ∷ 7 ∷ 3 ∷ 8 ∷ 4 ∷ 9 ∷ []) $ group ! 10 $
-            calls-fn ! fm call.ended (call.clauses 𝓛 at_mem run) (known)
-            (to-call x₁ v₁ x₂ v₂ x₃ v₃ x₄ v₄ x₅ v₅ x₆ v₆ x₇ v₇)
-            (λ r ws-r. Gives answerCode (λ a. OpenPromise (settingsOf x₁ x₂ x₃ x₄ x₅ x₆ x₇) x₀.now
+            calls_fn ! fm call.ended (call.clauses 𝓛 at_mem run) (known)
+            (to_call x₁ v₁ x₂ v₂ x₃ v₃ x₄ v₄ x₅ v₅ x₆ v₆ x₇ v₇)
+            (λ r ws-r. Gives answer_code (λ a. OpenPromise (settings_of x₁ x₂ x₃ x₄ x₅ x₆ x₇) x₀.now
             (parts_of x₈.now x₉.now x₁₀.now x₁₁.now) a ws-r.0 (parts_of x₈.now x₉.now x₁₀.now x₁₁.now)) r)
             (‵ (flft κ₀ q₀) ⊛ ‵ Own₀ ⊛ ‵ (flft κ₁ q₁) ⊛ ‵ Own₈ ⊛ ‵ (flft κ₂ q₂) ⊛ ‵ Own₉ ⊛ ‵ (flft κ₃ q₃)
             ⊛ ‵ Own₁₀ ⊛ ‵ (flft κ₄ q₄) ⊛ ‵ Own₁₁)
-            (asks-call x₁ v₁ g₁ x₂ v₂ g₂ x₃ v₃ g₃ x₄ v₄ g₄ x₅ v₅ g₅ x₆ v₆ g₆ x₇ v₇ g₇) (λ r ws-r. id⊢ 𝓤 _)
+            (asks_call x₁ v₁ g₁ x₂ v₂ g₂ x₃ v₃ g₃ x₄ v₄ g₄ x₅ v₅ g₅ x₆ v₆ g₆ x₇ v₇ g₇) (λ r ws-r. id⊢ 𝓤 _)
             (and_then ! (load ! (from ! (stop !)) (look ! 1 refl))
             (and_then ! (load ! (from ! (stop !)) (look ! 12 refl))
             (and_then ! (load ! (from ! (stop !)) (look ! 11 refl))
@@ -426,7 +426,7 @@ module _ {M : Type 1} {𝓤 : Ura M} (𝓛 : Logic 𝓤) (at_mem : Memory → SP
             (and_then ! (load ! (from ! (stop !)) (look ! 4 refl))
             (and_then ! (load ! (from ! (stop !)) (look ! 3 refl))
             (and_then ! (load ! (from ! (stop !)) (look ! 2 refl)) (no_more !)))))))))))))
-            (λ r w-r ws-r e-r is-r. land ! (from ! (stop !)) (init ! 15 refl ((sint_Lawful 𝓛 w32).typed r _ is-r).0) $
+            (λ r w_r ws-r e_r is_r. land ! (from ! (stop !)) (init ! 15 refl ((sint_Lawful 𝓛 w32).typed r _ is_r).0) $
             spread 𝓛 (‵ (flft κ₀ q₀)) (‵ (flft κ₁ q₁) ∷ ‵ (flft κ₂ q₂) ∷ ‵ (flft κ₃ q₃) ∷ ‵ (flft κ₄ q₄) ∷ ‵ ftrue
             ∷ []) (id⊢ 𝓤 _) $ move ! (6 ∷ []) $
             spread 𝓛 (‵ (fres x₀.name (L.coded.code ws-r.0)))
@@ -434,7 +434,7 @@ module _ {M : Type 1} {𝓤 : Ura M} (𝓛 : Logic 𝓤) (at_mem : Memory → SP
             ∷ ‵ ftrue ∷ ‵ ftrue ∷ []) (id⊢ 𝓤 _) $
             move ! (18 ∷ 12 ∷ 1 ∷ 2 ∷ 3 ∷ 4 ∷ 5 ∷ 6 ∷ 7 ∷ 8 ∷ 9 ∷ 10 ∷ 11 ∷ []) $ group ! 13 $ drop ! $
             -- [fin0; tok0; tok8; tok9; tok10; tok11; the locals]
-            same ! (on (ws-r.0, r, w-r, e-r, is-r)));
+            same ! (on (ws-r.0, r, w_r, e_r, is_r)));
       }
 
       walk : ent 𝓤 (on_entry 𝓛 f.signature (κ₀, (κ₁, (κ₂, (κ₃, (κ₄, tt))))) (q₀, (q₁, (q₂, (q₃, (q₄, tt))))) x at)
@@ -576,9 +576,9 @@ module _ {M : Type 1} {𝓤 : Ura M} (𝓛 : Logic 𝓤) (at_mem : Memory → SP
       are.1.1.1.1.1.1.1.1.1.0.0.1 a.1.1.1.1.1.1.1.1.1.1.0 are.1.1.1.1.1.1.1.1.1.1.0.0.1
       a.1.1.1.1.1.1.1.1.1.1.1.0 are.1.1.1.1.1.1.1.1.1.1.1.0.0.1 𝓣.C 𝓣.Λ (fm_of 𝓤 H 𝓛.laws 𝓣) known)))
 
-pub ampferweg-open-spec : {M : Type 1} → stated.statement M
+pub ampferweg_open_spec : {M : Type 1} → stated.statement M
 unfolding code.routine tables_of
-ampferweg-open-spec 𝓤 𝓛 𝓜 𝓡 =
+ampferweg_open_spec 𝓤 𝓛 𝓜 𝓡 =
     entered 𝓤 𝓛.H (triple_of 𝓛 f.signature (f.spec 𝓛 𝓜.mem 𝓡.run))
     (tables 𝓤 𝓛.H 𝓜 𝓡 code.env).C (tables 𝓤 𝓛.H 𝓜 𝓡 code.env).Λ #f code.function (code.unfolded 𝓤 𝓛.H 𝓜 𝓡)
     (f_meets 𝓛 𝓜.mem 𝓡.run (tables_of 𝓤 𝓛.H 𝓜 (tables 𝓤 𝓛.H 𝓜 𝓡 code.env)) (

@@ -140,32 +140,32 @@ use Rattle.records.proofs.Walk.{
   fat,
   exec,
 }
-use Rattle.records.proofs.Call.{calls-fn, plainly}
+use Rattle.records.proofs.Call.{calls_fn, plainly}
 use Rattle.records.proofs.Shared.{LentShared, lends_shared, shared_back}
 use Rattle.records.proofs.Rows.{R}
-use Rattle.lending.proofs.Fields.{ref-at, lend-mut, back-mut, lend-shr, back_shr, cell_out, cell_in, tells-length, lend-whole, back_whole}
-use Rattle.lending.proofs.Locals.{envAt, allocates, frees_all, holds, empty}
+use Rattle.lending.proofs.Fields.{ref_at, lend_mut, back_mut, lend_shr, back_shr, cell_out, cell_in, tells_length, lend_whole, back_whole}
+use Rattle.lending.proofs.Locals.{env_at, allocates, frees_all, holds, empty}
 use Rattle.lending.proofs.Parts.{behind, spread, same}
 use Rattle.lending.proofs.Block.{
   L,
   Open,
   Back,
-  link-own,
-  link-shr,
-  opens-link,
-  closes-link,
-  looks-link,
-  shuts-link,
-  place-settings,
-  place-flight,
-  place-arrival,
-  place-clock,
-  place-queued,
-  place-outstanding,
-  place-transmissions,
-  place-ready,
-  place-waiting,
-  place-waiting-numbers,
+  link_own,
+  link_shr,
+  opens_link,
+  closes_link,
+  looks_link,
+  shuts_link,
+  place_settings,
+  place_flight,
+  place_arrival,
+  place_clock,
+  place_queued,
+  place_outstanding,
+  place_transmissions,
+  place_ready,
+  place_waiting,
+  place_waiting_numbers,
 }
 use Rattle.control.specs.declared.Link.{Link}
 use Rattle.timing.specs.declared.Record.{Record}
@@ -194,7 +194,7 @@ use denote.Enum.Laws as EL
 use denote.Triple.Walked.{stay_ref, Goes-ref, gave_ref, Goes-gave_ref, stay_dropped, Goes-dropped}
 use Rattle.promises.specs.Parts.{parts_of}
 use Rattle.promises.specs.Promises.{ReadPromise}
-use Rattle.codes.specs.Codes.{countCode}
+use Rattle.codes.specs.Codes.{count_code}
 use Rattle.codes.specs.Gives.{Gives}
 use Rattle.local_calls.specs.contracts.read as call
 use Rattle.local_calls.proofs.read.Symbol as call-def
@@ -268,8 +268,8 @@ module _ {M : Type 1} {𝓤 : Ura M} (𝓛 : Logic 𝓤) (at_mem : Memory → SP
         (((κ₀, (κ₁, (κ₂, (κ₃, (κ₄, (κ₅, tt)))))), (q₀, (q₁, (q₂, (q₃, (q₄, (q₅, tt)))))), tt, x, at), tt)
 
     -- what call is called at, and that what it asks is had
-    abbrev to-call : (triple_of 𝓛 call.signature (call.spec 𝓛 at_mem run)).Ghost
-    to-call = (
+    abbrev to_call : (triple_of 𝓛 call.signature (call.spec 𝓛 at_mem run)).Ghost
+    to_call = (
       (
         (κ₀, (κ₁, (κ₂, (κ₃, (κ₄, (κ₅, tt)))))),
         (q₀, (q₁, (q₂, (q₃, (q₄, (q₅, tt)))))),
@@ -280,10 +280,10 @@ module _ {M : Type 1} {𝓤 : Ura M} (𝓛 : Logic 𝓤) (at_mem : Memory → SP
       tt,
     )
 
-    asks-call : ent 𝓤 (⋆ 𝓛 (‵ (flft κ₀ q₀) ∷ ‵ Own₀ ∷ ‵ (flft κ₁ q₁) ∷ ‵ Own₁ ∷ ‵ (flft κ₂ q₂) ∷ ‵ Own₂
+    asks_call : ent 𝓤 (⋆ 𝓛 (‵ (flft κ₀ q₀) ∷ ‵ Own₀ ∷ ‵ (flft κ₁ q₁) ∷ ‵ Own₁ ∷ ‵ (flft κ₂ q₂) ∷ ‵ Own₂
         ∷ ‵ (flft κ₃ q₃) ∷ ‵ Own₃ ∷ ‵ (flft κ₄ q₄) ∷ ‵ Own₄ ∷ ‵ (flft κ₅ q₅) ∷ ‵ Own₅ ∷ []))
-        ((triple_of 𝓛 call.signature (call.spec 𝓛 at_mem run)).pre (to-call))
-    asks-call =
+        ((triple_of 𝓛 call.signature (call.spec 𝓛 at_mem run)).pre (to_call))
+    asks_call =
         qed 𝓛 (‵ (flft κ₀ q₀) ∷ ‵ Own₀ ∷ ‵ (flft κ₁ q₁) ∷ ‵ Own₁ ∷ ‵ (flft κ₂ q₂) ∷ ‵ Own₂ ∷ ‵ (flft κ₃ q₃)
         ∷ ‵ Own₃ ∷ ‵ (flft κ₄ q₄) ∷ ‵ Own₄ ∷ ‵ (flft κ₅ q₅) ∷ ‵ Own₅ ∷ []) ∵ nothing ! $ move ! (11 ∷ 0 ∷ []) $
         join ! $ move ! (9 ∷ 0 ∷ []) $ join ! $ move ! (7 ∷ 0 ∷ []) $ join ! $ move ! (5 ∷ 0 ∷ []) $ join ! $ move ! (3 ∷ 0 ∷ []) $
@@ -297,7 +297,7 @@ module _ {M : Type 1} {𝓤 : Ura M} (𝓛 : Logic 𝓤) (at_mem : Memory → SP
 
     -- what the contract says
     abbrev Said : (r : ℤ) (z₀ : Link) (z₅ : List ℕ) → Type 0
-    Said r z₀ z₅ = Gives countCode (λ a. ReadPromise x₀.now (parts_of x₁.now x₂.now x₃.now x₄.now) x₅.now a z₀
+    Said r z₀ z₅ = Gives count_code (λ a. ReadPromise x₀.now (parts_of x₁.now x₂.now x₃.now x₄.now) x₅.now a z₀
         (parts_of x₁.now x₂.now x₃.now x₄.now) z₅) r
 
     exits : (r : ℤ) (w : Val) (z₀ : Link) (z₅ : List ℕ) → Said r z₀ z₅ → length z₅ ≡ length x₅.now → Is i32 r (w ∷ [])
@@ -315,16 +315,16 @@ module _ {M : Type 1} {𝓤 : Ura M} (𝓛 : Logic 𝓤) (at_mem : Memory → SP
     module _ (C : Calls 𝓤 H) (Λ : Loops 𝓤 H) (fm : FmC 𝓤 H 𝓛.laws C) (known : Known C) where
       -- where the locals lie
       abbrev En : (ℕ → ℕ) → Env 𝓤 H
-      En p = envAt (code.function).locals p
+      En p = env_at (code.function).locals p
 
       -- part 1: what it knows, what it tells; what it has, and leaves
       abbrev Known₁ : Type 0
       Known₁ = Unit {0}
 
       abbrev New₁ : Known₁ → Type 0
-      New₁ past = (z₅ : List ℕ) × (z₀ : Link) × (r : ℤ) × (w-r : Val) ×
-          (e-r : Gives countCode (λ a. ReadPromise x₀.now (parts_of x₁.now x₂.now x₃.now x₄.now) x₅.now a z₀
-          (parts_of x₁.now x₂.now x₃.now x₄.now) z₅) r) × (is-r : Is i32 r (w-r ∷ [])) × (length z₅ ≡ length x₅.now)
+      New₁ past = (z₅ : List ℕ) × (z₀ : Link) × (r : ℤ) × (w_r : Val) ×
+          (e_r : Gives count_code (λ a. ReadPromise x₀.now (parts_of x₁.now x₂.now x₃.now x₄.now) x₅.now a z₀
+          (parts_of x₁.now x₂.now x₃.now x₄.now) z₅) r) × (is_r : Is i32 r (w_r ∷ [])) × (length z₅ ≡ length x₅.now)
 
       abbrev Has₁ : (ℕ → ℕ) → Known₁ → List (Item 𝓤) → List (Item 𝓤)
       Has₁ p past Γ = ‵ (flft κ₀ q₀) ∷ ‵ (flft κ₁ q₁) ∷ ‵ (flft κ₂ q₂) ∷ ‵ (flft κ₃ q₃) ∷ ‵ (flft κ₄ q₄)
@@ -366,18 +366,18 @@ module _ {M : Type 1} {𝓤 : Ura M} (𝓛 : Logic 𝓤) (at_mem : Memory → SP
             (and_then ! (load ! (from ! (fld ! refl (stop !))) (look_in ! 15 (sub ! 1 refl (whole !)))) (no_more !)))) (from ! (stop !))
             (init ! 12 refl (tt, (tt, (record { fits = room₅.0 }, tt)))) $
             move ! (0 ∷ 6 ∷ 1 ∷ 7 ∷ 2 ∷ 8 ∷ 3 ∷ 9 ∷ 4 ∷ 10 ∷ 5 ∷ 11 ∷ []) $ group ! 12 $
-            calls-fn ! fm call.ended (call.clauses 𝓛 at_mem run) (known) (to-call)
-            (λ r ws-r. Gives countCode (λ a. ReadPromise x₀.now (parts_of x₁.now x₂.now x₃.now x₄.now) x₅.now a ws-r.0
+            calls_fn ! fm call.ended (call.clauses 𝓛 at_mem run) (known) (to_call)
+            (λ r ws-r. Gives count_code (λ a. ReadPromise x₀.now (parts_of x₁.now x₂.now x₃.now x₄.now) x₅.now a ws-r.0
             (parts_of x₁.now x₂.now x₃.now x₄.now) ws-r.1.1.1.1.1.0) r)
             (‵ (flft κ₀ q₀) ⊛ ‵ Own₀ ⊛ ‵ (flft κ₁ q₁) ⊛ ‵ Own₁ ⊛ ‵ (flft κ₂ q₂) ⊛ ‵ Own₂ ⊛ ‵ (flft κ₃ q₃)
             ⊛ ‵ Own₃ ⊛ ‵ (flft κ₄ q₄) ⊛ ‵ Own₄ ⊛ ‵ (flft κ₅ q₅) ⊛ ‵ Own₅)
-            (asks-call) (λ r ws-r. id⊢ 𝓤 _)
+            (asks_call) (λ r ws-r. id⊢ 𝓤 _)
             (and_then ! (load ! (from ! (stop !)) (look ! 3 refl))
             (and_then ! (load ! (from ! (stop !)) (look ! 8 refl))
             (and_then ! (load ! (from ! (stop !)) (look ! 7 refl))
             (and_then ! (load ! (from ! (stop !)) (look ! 6 refl))
             (and_then ! (load ! (from ! (stop !)) (look ! 5 refl)) (and_then ! (load ! (from ! (stop !)) (look ! 1 refl)) (no_more !)))))))
-            (λ r w-r ws-r e-r is-r. land ! (from ! (stop !)) (init ! 11 refl ((sint_Lawful 𝓛 w32).typed r _ is-r).0) $
+            (λ r w_r ws-r e_r is_r. land ! (from ! (stop !)) (init ! 11 refl ((sint_Lawful 𝓛 w32).typed r _ is_r).0) $
             spread 𝓛 (‵ (flft κ₀ q₀)) (‵ (flft κ₁ q₁) ∷ ‵ (flft κ₂ q₂) ∷ ‵ (flft κ₃ q₃) ∷ ‵ (flft κ₄ q₄)
             ∷ ‵ (flft κ₅ q₅) ∷ ‵ ftrue ∷ []) (id⊢ 𝓤 _) $ move ! (7 ∷ []) $
             spread 𝓛 (‵ (fres x₀.name (L.coded.code ws-r.0)))
@@ -386,7 +386,7 @@ module _ {M : Type 1} {𝓤 : Ura M} (𝓛 : Logic 𝓤) (at_mem : Memory → SP
             ∷ ‵ ftrue ∷ []) (id⊢ 𝓤 _) $ move ! (13 ∷ 6 ∷ 1 ∷ 2 ∷ 3 ∷ 4 ∷ []) $ group ! 6 $ drop ! $ move ! (1 ∷ []) $ fsplit ! $
             move ! (1 ∷ []) $ feq_l ! (λ len₅.
             -- [fin5; fin0; tok0; tok1; tok2; tok3; tok4; tok5; the locals]
-            same ! (on (ws-r.1.1.1.1.1.0, ws-r.0, r, w-r, e-r, is-r, len₅))));
+            same ! (on (ws-r.1.1.1.1.1.0, ws-r.0, r, w_r, e_r, is_r, len₅))));
       }
 
       walk : ent 𝓤 (on_entry 𝓛 f.signature (κ₀, (κ₁, (κ₂, (κ₃, (κ₄, (κ₅, tt)))))) (q₀, (q₁, (q₂, (q₃, (q₄, (q₅, tt))))))
@@ -460,9 +460,9 @@ module _ {M : Type 1} {𝓤 : Ura M} (𝓛 : Logic 𝓤) (at_mem : Memory → SP
       a.1.1.1.0 are.1.1.1.0.0.1 a.1.1.1.1.0 are.1.1.1.1.0.0.1 a.1.1.1.1.1.0
       are.1.1.1.1.1.0.0.1 𝓣.C 𝓣.Λ (fm_of 𝓤 H 𝓛.laws 𝓣) known)))
 
-pub ampferweg-read-spec : {M : Type 1} → stated.statement M
+pub ampferweg_read_spec : {M : Type 1} → stated.statement M
 unfolding code.routine tables_of
-ampferweg-read-spec 𝓤 𝓛 𝓜 𝓡 =
+ampferweg_read_spec 𝓤 𝓛 𝓜 𝓡 =
     entered 𝓤 𝓛.H (triple_of 𝓛 f.signature (f.spec 𝓛 𝓜.mem 𝓡.run))
     (tables 𝓤 𝓛.H 𝓜 𝓡 code.env).C (tables 𝓤 𝓛.H 𝓜 𝓡 code.env).Λ #f code.function (code.unfolded 𝓤 𝓛.H 𝓜 𝓡)
     (f_meets 𝓛 𝓜.mem 𝓡.run (tables_of 𝓤 𝓛.H 𝓜 (tables 𝓤 𝓛.H 𝓜 𝓡 code.env)) (

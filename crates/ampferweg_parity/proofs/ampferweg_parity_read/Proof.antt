@@ -9,9 +9,9 @@ use lib.ListN.{length}
 use mir.Syntax.{w32}
 use mir.ValLaws.{to_z_pos}
 use Rattle.codes.proofs.Signs.{passed}
-use Rattle.frames.specs.Outcomes.{writeOf}
+use Rattle.frames.specs.Outcomes.{write_of}
 use Rattle.frames.specs.Reading.{read_of}
-use Rattle.ampferweg_parity.specs.ToldLaws.{refusal-fits, count_fits, answer-fits, write-few, read-few, told}
+use Rattle.ampferweg_parity.specs.ToldLaws.{refusal_fits, count_fits, answer_fits, write_few, read_few, told}
 use Rattle.ampferweg_parity.proofs.ampferweg_parity_read.Statement.{statement}
 use Rattle.ampferweg_parity.proofs.ampferweg_parity_read.Tie as tie
 
@@ -25,16 +25,16 @@ returns c =
     (length c.before.before.before.before.before.before.before.before.before.before.before.before.args.out-lengths.now)) c.before.before.before.before.before.before.before.before.before.before.before.before.args.out.now
     c.before.before.before.before.before.before.before.before.before.before.before.before.args.out-lengths.now
     c.before.before.before.before.before.read-group.result _ _ _
-    (read-few c.before.before.before.before.before.before.before.before.before.before.before.before.args.k
+    (read_few c.before.before.before.before.before.before.before.before.before.before.before.before.args.k
     c.before.before.before.before.before.before.before.before.before.before.before.before.args.mtu
     c.before.before.before.before.before.before.before.before.before.before.before.before.args.frames.now
     c.before.before.before.before.before.before.before.before.before.before.before.before.args.lengths.now
     (length c.before.before.before.before.before.before.before.before.before.before.before.before.args.out.now)
-    (length c.before.before.before.before.before.before.before.before.before.before.before.before.args.out-lengths.now)) (passed _ (answer-fits c.before.before.before.before.before.read-group.result) c.answer-code.ensures)
+    (length c.before.before.before.before.before.before.before.before.before.before.before.before.args.out-lengths.now)) (passed _ (answer_fits c.before.before.before.before.before.read-group.result) c.answer-code.ensures)
     c.before.before.before.before.before.read-group.ensures
 
-pub ampferweg-parity-read-spec : {M : Type 1} → statement M
-ampferweg-parity-read-spec =
+pub ampferweg_parity_read_spec : {M : Type 1} → statement M
+ampferweg_parity_read_spec =
     tie.close
     (tie.spec
     (λ c κs. search rules)

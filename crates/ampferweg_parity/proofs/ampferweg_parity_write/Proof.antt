@@ -9,15 +9,15 @@ use lib.ListN.{length}
 use mir.Syntax.{w32}
 use mir.ValLaws.{to_z_pos}
 use Rattle.codes.proofs.Signs.{passed}
-use Rattle.frames.specs.Outcomes.{writeOf}
+use Rattle.frames.specs.Outcomes.{write_of}
 use Rattle.frames.specs.Reading.{read_of}
-use Rattle.ampferweg_parity.specs.ToldLaws.{refusal-fits, count_fits, answer-fits, write-few, read-few, told}
+use Rattle.ampferweg_parity.specs.ToldLaws.{refusal_fits, count_fits, answer_fits, write_few, read_few, told}
 use Rattle.ampferweg_parity.proofs.ampferweg_parity_write.Statement.{statement}
 use Rattle.ampferweg_parity.proofs.ampferweg_parity_write.Tie as tie
 
 returns : tie.Need-returns
 returns c =
-    told (writeOf c.before.before.before.before.before.before.before.before.before.before.before.before.args.group
+    told (write_of c.before.before.before.before.before.before.before.before.before.before.before.before.args.group
     c.before.before.before.before.before.before.before.before.before.before.before.before.args.k
     c.before.before.before.before.before.before.before.before.before.before.before.before.args.mtu
     c.before.before.before.before.before.before.before.before.before.before.before.before.args.datagrams.now
@@ -26,17 +26,17 @@ returns c =
     (length c.before.before.before.before.before.before.before.before.before.before.before.before.args.out-lengths.now)) c.before.before.before.before.before.before.before.before.before.before.before.before.args.out.now
     c.before.before.before.before.before.before.before.before.before.before.before.before.args.out-lengths.now
     c.before.before.before.before.before.write-group.result _ _ _
-    (write-few c.before.before.before.before.before.before.before.before.before.before.before.before.args.group
+    (write_few c.before.before.before.before.before.before.before.before.before.before.before.before.args.group
     c.before.before.before.before.before.before.before.before.before.before.before.before.args.k
     c.before.before.before.before.before.before.before.before.before.before.before.before.args.mtu
     c.before.before.before.before.before.before.before.before.before.before.before.before.args.datagrams.now
     c.before.before.before.before.before.before.before.before.before.before.before.before.args.lengths.now
     (length c.before.before.before.before.before.before.before.before.before.before.before.before.args.out.now)
-    (length c.before.before.before.before.before.before.before.before.before.before.before.before.args.out-lengths.now)) (passed _ (answer-fits c.before.before.before.before.before.write-group.result) c.answer-code.ensures)
+    (length c.before.before.before.before.before.before.before.before.before.before.before.before.args.out-lengths.now)) (passed _ (answer_fits c.before.before.before.before.before.write-group.result) c.answer-code.ensures)
     c.before.before.before.before.before.write-group.ensures
 
-pub ampferweg-parity-write-spec : {M : Type 1} → statement M
-ampferweg-parity-write-spec =
+pub ampferweg_parity_write_spec : {M : Type 1} → statement M
+ampferweg_parity_write_spec =
     tie.close
     (tie.spec
     (λ c κs. search rules)

@@ -9,9 +9,9 @@ use lib.ListN.{length}
 use mir.Syntax.{w32}
 use mir.ValLaws.{to_z_pos}
 use Rattle.codes.proofs.Signs.{passed}
-use Rattle.frames.specs.Outcomes.{writeOf}
+use Rattle.frames.specs.Outcomes.{write_of}
 use Rattle.frames.specs.Reading.{read_of}
-use Rattle.ampferweg_parity.specs.ToldLaws.{refusal-fits, count_fits, answer-fits, write-few, read-few, told}
+use Rattle.ampferweg_parity.specs.ToldLaws.{refusal_fits, count_fits, answer_fits, write_few, read_few, told}
 use Rattle.ampferweg_parity.proofs.count_code.Statement.{statement}
 use Rattle.ampferweg_parity.proofs.count_code.Tie as tie
 
@@ -23,8 +23,8 @@ returns c =
 returns-2 : tie.Need-returns-2
 returns-2 c = let large : 12 ≡ min c.before.args.n 12 = omega (arith, c.if1.false) in ap pos large
 
-pub count-code-spec : {M : Type 1} → statement M
-count-code-spec =
+pub count_code_spec : {M : Type 1} → statement M
+count_code_spec =
     tie.close
     (tie.spec
     (λ c. search rules)

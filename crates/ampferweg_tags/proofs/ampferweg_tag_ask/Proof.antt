@@ -32,8 +32,8 @@ returns-3 c = rw (sym c.before.before.find.ensures ∙ c.enum_told.given.1) (ref
 returns-4 : tie.Need-returns-4
 returns-4 c = rw (sym c.before.before.find.ensures ∙ c.enum-told2.given.1) (refl, refl, refl)
 
-pub ampferweg-tag-ask-spec : {M : Type 1} → statement M
-ampferweg-tag-ask-spec =
+pub ampferweg_tag_ask_spec : {M : Type 1} → statement M
+ampferweg_tag_ask_spec =
     tie.close
     (tie.spec
     find-requires

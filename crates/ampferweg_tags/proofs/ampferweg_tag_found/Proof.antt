@@ -2,8 +2,8 @@
 -- Assumes nothing.
 use mathlib.Core.Path.{ap, ◌∙◌}
 use Rattle.codes.proofs.Signs.{passed}
-use Rattle.ampferweg_tags.specs.TagCodes.{presenceCode}
-use Rattle.ampferweg_tags.proofs.Told.{presence-fits}
+use Rattle.ampferweg_tags.specs.TagCodes.{presence_code}
+use Rattle.ampferweg_tags.proofs.Told.{presence_fits}
 use borrow.Author.Rules.{rules}
 use Rattle.ampferweg_tags.proofs.ampferweg_tag_found.Statement.{statement}
 use Rattle.ampferweg_tags.proofs.ampferweg_tag_found.Tie as tie
@@ -15,7 +15,7 @@ presence-code-requires : tie.Need-presence-code-requires
 presence-code-requires c κs = search rules
 
 returns : tie.Need-returns
-returns c = passed _ (presence-fits c.before.found.result) c.presence-code.ensures ∙ ap presenceCode c.before.found.ensures
+returns c = passed _ (presence_fits c.before.found.result) c.presence-code.ensures ∙ ap presence_code c.before.found.ensures
 
-pub ampferweg-tag-found-spec : {M : Type 1} → statement M
-ampferweg-tag-found-spec = tie.close (tie.spec found-requires presence-code-requires returns)
+pub ampferweg_tag_found_spec : {M : Type 1} → statement M
+ampferweg_tag_found_spec = tie.close (tie.spec found-requires presence-code-requires returns)

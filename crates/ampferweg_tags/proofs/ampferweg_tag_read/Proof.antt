@@ -2,7 +2,7 @@
 -- Assumes nothing.
 use mathlib.Core.Path.{refl, sym, ◌∙◌}
 use Rattle.codes.proofs.Signs.{passed}
-use Rattle.ampferweg_tags.proofs.Told.{refusal-fits}
+use Rattle.ampferweg_tags.proofs.Told.{refusal_fits}
 use borrow.Author.Rules.{rules}
 use Rattle.ampferweg_tags.proofs.ampferweg_tag_read.Statement.{statement}
 use Rattle.ampferweg_tags.proofs.ampferweg_tag_read.Tie as tie
@@ -28,10 +28,10 @@ returns-2 : tie.Need-returns-2
 returns-2 c =
     let given = c.before.before.refusal.given in
     rw (sym c.before.before.before.before.read.ensures ∙ given.1)
-    (passed _ (refusal-fits given.0.0) c.refusal-code.ensures, refl, refl)
+    (passed _ (refusal_fits given.0.0) c.refusal-code.ensures, refl, refl)
 
-pub ampferweg-tag-read-spec : {M : Type 1} → statement M
-ampferweg-tag-read-spec =
+pub ampferweg_tag_read_spec : {M : Type 1} → statement M
+ampferweg_tag_read_spec =
     tie.close
     (tie.spec
     read-requires

@@ -1,7 +1,7 @@
 -- `ampferweg_tags::ampferweg_tag_remove` meets its contract: what was changed, told by its code.
 -- Assumes nothing.
 use Rattle.codes.proofs.Signs.{passed}
-use Rattle.ampferweg_tags.proofs.Told.{changing-fits, tells-change}
+use Rattle.ampferweg_tags.proofs.Told.{changing_fits, tells_change}
 use borrow.Author.Rules.{rules}
 use Rattle.ampferweg_tags.proofs.ampferweg_tag_remove.Statement.{statement}
 use Rattle.ampferweg_tags.proofs.ampferweg_tag_remove.Tie as tie
@@ -18,9 +18,9 @@ same_length c = search rules
 returns : tie.Need-returns
 returns c =
     let call = c.before.before.before in
-    tells-change _ _ _ call.remove.result _ call.remove.ensures
-    (passed _ (changing-fits call.remove.result) c.changing-code.ensures)
+    tells_change _ _ _ call.remove.result _ call.remove.ensures
+    (passed _ (changing_fits call.remove.result) c.changing-code.ensures)
 
-pub ampferweg-tag-remove-spec : {M : Type 1} → statement M
-ampferweg-tag-remove-spec =
+pub ampferweg_tag_remove_spec : {M : Type 1} → statement M
+ampferweg_tag_remove_spec =
     tie.close (tie.spec remove-requires changing-code-requires same_length returns)

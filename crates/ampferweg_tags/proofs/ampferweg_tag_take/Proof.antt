@@ -1,7 +1,7 @@
 -- `ampferweg_tags::ampferweg_tag_take` meets its contract: what was changed, told by its code.
 -- Assumes nothing.
 use Rattle.codes.proofs.Signs.{passed}
-use Rattle.ampferweg_tags.proofs.Told.{changing-fits, tells-change}
+use Rattle.ampferweg_tags.proofs.Told.{changing_fits, tells_change}
 use borrow.Author.Rules.{rules}
 use Rattle.ampferweg_tags.proofs.ampferweg_tag_take.Statement.{statement}
 use Rattle.ampferweg_tags.proofs.ampferweg_tag_take.Tie as tie
@@ -18,9 +18,9 @@ same_length c = search rules
 returns : tie.Need-returns
 returns c =
     let call = c.before.before.before in
-    tells-change _ _ _ call.take.result _ call.take.ensures
-    (passed _ (changing-fits call.take.result) c.changing-code.ensures)
+    tells_change _ _ _ call.take.result _ call.take.ensures
+    (passed _ (changing_fits call.take.result) c.changing-code.ensures)
 
-pub ampferweg-tag-take-spec : {M : Type 1} → statement M
-ampferweg-tag-take-spec =
+pub ampferweg_tag_take_spec : {M : Type 1} → statement M
+ampferweg_tag_take_spec =
     tie.close (tie.spec take-requires changing-code-requires same_length returns)

@@ -1,7 +1,7 @@
 -- `ampferweg_tags::presence_code` meets its contract, by its cases.
 -- Assumes nothing.
 use Rattle.codes.proofs.Signs.{passed}
-use Rattle.ampferweg_tags.proofs.Told.{refusal-fits}
+use Rattle.ampferweg_tags.proofs.Told.{refusal_fits}
 use borrow.Author.Rules.{rules}
 use Rattle.ampferweg_tags.proofs.presence_code.Statement.{statement}
 use Rattle.ampferweg_tags.proofs.presence_code.Tie as tie
@@ -27,10 +27,10 @@ returns-2 c = rw c.enum-told2.given.1
 returns-3 : tie.Need-returns-3
 returns-3 c =
     let given = c.before.before.presence.given in
-    rw given.1 (passed _ (refusal-fits given.0.0) c.refusal-code.ensures)
+    rw given.1 (passed _ (refusal_fits given.0.0) c.refusal-code.ensures)
 
-pub presence-code-spec : {M : Type 1} → statement M
-presence-code-spec =
+pub presence_code_spec : {M : Type 1} → statement M
+presence_code_spec =
     tie.close
     (tie.spec
     enum_told

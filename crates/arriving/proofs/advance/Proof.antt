@@ -3,7 +3,7 @@
 use mathlib.Core.Path.{refl, sym, ◌∙◌}
 use Prim.Native.Nat.{◌<◌, ◌^◌}
 use borrow.Author.Rules.{rules}
-use Rattle.arriving.proofs.Moves.{none-up, moved_up}
+use Rattle.arriving.proofs.Moves.{none_up, moved_up}
 use Rattle.arriving.proofs.advance.Statement.{statement}
 use Rattle.arriving.proofs.advance.Tie as tie
 
@@ -18,12 +18,12 @@ returns c =
     record {
       whole = p.0;
       is =
-          none-up a.ready.now a.waiting.now a.numbers.now a.arrival.ready a.arrival.waiting _ a.arrival.expected
-          p.0 (low start) p.1.few-ready p.1.few-waiting
+          none_up a.ready.now a.waiting.now a.numbers.now a.arrival.ready a.arrival.waiting _ a.arrival.expected
+          p.0 (low start) p.1.few_ready p.1.few_waiting
           c.before.before.before.least.ensures
-          (sym c.if1.true ∙ c.before.run.ensures.1 a.waiting.now p.0.whole-waiting);
-      same-acks = refl;
-      same-tell = refl;
+          (sym c.if1.true ∙ c.before.run.ensures.1 a.waiting.now p.0.whole_waiting);
+      same_acks = refl;
+      same_tell = refl;
     }
 
 returns-2 : tie.Need-returns-2
@@ -36,18 +36,18 @@ returns-2 c =
     let left = c.before.before.before.drop-first.ensures in
     let numbers = c.before.drop-first2.ensures in
     record {
-      whole = record { whole_ready = up.whole; whole-waiting = left.whole; whole_numbers = numbers.whole };
+      whole = record { whole_ready = up.whole; whole_waiting = left.whole; whole_numbers = numbers.whole };
       is =
           moved_up a.ready.now a.waiting.now a.numbers.now _ _ _ a.arrival.ready a.arrival.waiting _ p.0
-          p.1.few-waiting (search rules) up left numbers
-          a.arrival.expected _ _ (low start) p.1.few-ready i.before.before.before.least.ensures
-          (i.before.run.ensures.1 a.waiting.now p.0.whole-waiting) c.sum.ensures;
-      same-acks = refl;
-      same-tell = refl;
+          p.1.few_waiting (search rules) up left numbers
+          a.arrival.expected _ _ (low start) p.1.few_ready i.before.before.before.least.ensures
+          (i.before.run.ensures.1 a.waiting.now p.0.whole_waiting) c.sum.ensures;
+      same_acks = refl;
+      same_tell = refl;
     }
 
-pub advance-spec : {M : Type 1} → statement M
-advance-spec =
+pub advance_spec : {M : Type 1} → statement M
+advance_spec =
     tie.close
     (tie.spec
     (λ c. search rules)

@@ -7,15 +7,15 @@ use native.Mathlib.Omega.{arith}
 use borrow.Author.Rules.{rules}
 use lib.ListN.{length, take, drop}
 use Rattle.lists.specs.Receiving.{run_of}
-use Rattle.words.specs.Words.{paired, waitingAt}
-use Rattle.arriving.proofs.Moves.{runs-more, runs-stop, runs-end}
+use Rattle.words.specs.Words.{paired, waiting_at}
+use Rattle.arriving.proofs.Moves.{runs_more, runs_stop, runs_end}
 use Rattle.arriving.proofs.run.Statement.{statement}
 use Rattle.arriving.proofs.run.Tie as tie
 
 abbrev invariant-loop : tie.invariant-loop
 invariant-loop numbers n next expected₀ i₀ expected i =
-    (i ≤ n) × ((words : List ℕ) → length words ≡ 128 → run_of next (take n (paired waitingAt words numbers)) ≡ i
-    + run_of expected (drop i (take n (paired waitingAt words numbers))))
+    (i ≤ n) × ((words : List ℕ) → length words ≡ 128 → run_of next (take n (paired waiting_at words numbers)) ≡ i
+    + run_of expected (drop i (take n (paired waiting_at words numbers))))
 
 abbrev decreases-loop : tie.decreases-loop
 decreases-loop numbers n next expected₀ i₀ expected i = n - i
@@ -25,7 +25,7 @@ loop-again c =
     let v = c.before.before.before.before.before.loop.invariant in
     let p = c.before.before.before.before.before.before.requires in (
       search rules,
-      λ words e. runs-more words _ _ _ _ _ e p.0 p.1 (v.1 words e) _
+      λ words e. runs_more words _ _ _ _ _ e p.0 p.1 (v.1 words e) _
           c.before.before.before.before.loop-test.true c.before.before.difference.ensures _ c.sum.ensures
           c.before.if1.true,
     )
@@ -35,7 +35,7 @@ returns c =
     let v = c.before.before.before.before.loop.invariant in
     let p = c.before.before.before.before.before.requires in (
       search rules,
-      λ words e. sym (runs-stop words _ _ _ _ _ e p.0 p.1 (v.1 words e) _ c.before.before.before.loop-test.true
+      λ words e. sym (runs_stop words _ _ _ _ _ e p.0 p.1 (v.1 words e) _ c.before.before.before.loop-test.true
           c.before.difference.ensures c.if1.false),
     )
 
@@ -43,7 +43,7 @@ returns-2 : tie.Need-returns-2 invariant-loop decreases-loop
 returns-2 c =
     let v = c.before.loop.invariant in
     let p = c.before.before.requires in
-    (search rules, λ words e. sym (runs-end words _ _ _ _ _ e p.0 p.1 (v.1 words e) c.loop-test.false))
+    (search rules, λ words e. sym (runs_end words _ _ _ _ _ e p.0 p.1 (v.1 words e) c.loop-test.false))
 
 pub run_spec : {M : Type 1} → statement M
 run_spec =

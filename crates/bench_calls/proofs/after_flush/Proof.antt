@@ -4,5 +4,5 @@ use borrow.Author.Rules.{rules}
 use Rattle.bench_calls.proofs.after_flush.Statement.{statement}
 use Rattle.bench_calls.proofs.after_flush.Tie as tie
 
-pub after-flush-spec : {M : Type 1} → statement M
-after-flush-spec = tie.close (tie.spec (search rules) (λ c. rw c.with-table.ensures))
+pub after_flush_spec : {M : Type 1} → statement M
+after_flush_spec = tie.close (tie.spec (search rules) (λ c. rw c.with-table.ensures))

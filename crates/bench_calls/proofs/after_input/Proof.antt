@@ -4,5 +4,5 @@ use borrow.Author.Rules.{rules}
 use Rattle.bench_calls.proofs.after_input.Statement.{statement}
 use Rattle.bench_calls.proofs.after_input.Tie as tie
 
-pub after-input-spec : {M : Type 1} → statement M
-after-input-spec = tie.close (tie.spec (search rules) (λ c. rw c.with-table.ensures))
+pub after_input_spec : {M : Type 1} → statement M
+after_input_spec = tie.close (tie.spec (search rules) (λ c. rw c.with-table.ensures))

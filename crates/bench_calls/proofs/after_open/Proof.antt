@@ -10,5 +10,5 @@ returns c = rw (c.with-opened.ensures, c.before.enum_told.given.1)
 returns-2 : tie.Need-returns-2
 returns-2 c = rw (c.with-link.ensures, c.before.before.answer.given.1)
 
-pub after-open-spec : {M : Type 1} → statement M
-after-open-spec = tie.close (tie.spec (search rules) (search rules) (search rules) (search rules) returns returns-2)
+pub after_open_spec : {M : Type 1} → statement M
+after_open_spec = tie.close (tie.spec (search rules) (search rules) (search rules) (search rules) returns returns-2)

@@ -4,5 +4,5 @@ use borrow.Author.Rules.{rules}
 use Rattle.bench_calls.proofs.after_read.Statement.{statement}
 use Rattle.bench_calls.proofs.after_read.Tie as tie
 
-pub after-read-spec : {M : Type 1} → statement M
-after-read-spec = tie.close (tie.spec (search rules) (λ c. rw c.with-link.ensures))
+pub after_read_spec : {M : Type 1} → statement M
+after_read_spec = tie.close (tie.spec (search rules) (λ c. rw c.with-link.ensures))

@@ -4,5 +4,5 @@ use borrow.Author.Rules.{rules}
 use Rattle.bench_calls.proofs.after_send.Statement.{statement}
 use Rattle.bench_calls.proofs.after_send.Tie as tie
 
-pub after-send-spec : {M : Type 1} → statement M
-after-send-spec = tie.close (tie.spec (search rules) (λ c. rw c.with-link.ensures))
+pub after_send_spec : {M : Type 1} → statement M
+after_send_spec = tie.close (tie.spec (search rules) (λ c. rw c.with-link.ensures))

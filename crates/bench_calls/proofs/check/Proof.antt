@@ -1,6 +1,6 @@
 -- `bench_calls::check` meets its contract: what is lent of each slice is as much as the bench says.
 -- Assumes nothing.
-use Rattle.bench_calls.specs.Fronts.{front-take}
+use Rattle.bench_calls.specs.Fronts.{front_take}
 use Rattle.bench_calls.proofs.check.Statement.{statement}
 use Rattle.bench_calls.proofs.check.Tie as tie
 
@@ -9,11 +9,11 @@ returns c =
     let third = c.before.before.before.before.before in
     let second = third.before in
     let first = second.before in
-    rw (front-take _ _ _ first.front.ensures, front-take _ _ _ second.front2.ensures, front-take _ _ _ third.front-acks.ensures)
+    rw (front_take _ _ _ first.front.ensures, front_take _ _ _ second.front2.ensures, front_take _ _ _ third.front-acks.ensures)
     at c.check.ensures
 
-pub check-spec : {M : Type 1} → statement M
-check-spec =
+pub check_spec : {M : Type 1} → statement M
+check_spec =
     tie.close
     (tie.spec
     (λ c κs. tt)

@@ -3,7 +3,7 @@
 use mathlib.Core.Path.{◌≡◌, refl}
 use lib.ListN.{length}
 use borrow.Author.Rules.{rules}
-use Rattle.bench_calls.specs.Fronts.{front-take, front-new, front-behind}
+use Rattle.bench_calls.specs.Fronts.{front_take, front_new, front_behind}
 use Rattle.bench_calls.proofs.flush.Statement.{statement}
 use Rattle.bench_calls.proofs.flush.Tie as tie
 
@@ -13,27 +13,27 @@ returns c =
     let output = c.before.before.before.before.before.before.before.before.before.before.before.before.before.before.front3.ensures in
     let lengths = c.before.before.before.before.before.before.before.before.before.before.before.before.front-lengths.ensures in
     let promised = rw (
-      front-take _ _ _ c.before.before.before.before.before.before.before.before.before.before.before.before.before.before.before.before.before.before.front.ensures,
-      front-take _ _ _ c.before.before.before.before.before.before.before.before.before.before.before.before.before.before.before.before.before.front2.ensures,
-      front-take _ _ _ c.before.before.before.before.before.before.before.before.before.before.before.before.before.before.before.before.front-acks.ensures,
-      front-take _ _ _ output,
-      front-take _ _ _ lengths,
+      front_take _ _ _ c.before.before.before.before.before.before.before.before.before.before.before.before.before.before.before.before.before.before.front.ensures,
+      front_take _ _ _ c.before.before.before.before.before.before.before.before.before.before.before.before.before.before.before.before.before.front2.ensures,
+      front_take _ _ _ c.before.before.before.before.before.before.before.before.before.before.before.before.before.before.before.before.front-acks.ensures,
+      front_take _ _ _ output,
+      front_take _ _ _ lengths,
     ) at flushed.ensures.0 in
     let bytes = flushed.new.1.1.1.1.1.1.1.0 in
     let sizes = flushed.new.1.1.1.1.1.1.1.1.0 in
     let same : length bytes ≡ c.before.before.before.before.before.before.before.before.before.before.before.before.before.before.front3.result = search rules in
     let also : length sizes ≡ c.before.before.before.before.before.before.before.before.before.before.before.before.front-lengths.result = search rules in
     rw c.after-flush.ensures (record {
-      promise = rw (front-new _ _ _ bytes output same, front-new _ _ _ sizes lengths also) promised;
-      behind = front-behind _ _ _ bytes output same;
-      lengthsBehind = front-behind _ _ _ sizes lengths also;
-      recordsBehind =
+      promise = rw (front_new _ _ _ bytes output same, front_new _ _ _ sizes lengths also) promised;
+      behind = front_behind _ _ _ bytes output same;
+      lengths_behind = front_behind _ _ _ sizes lengths also;
+      records_behind =
           flushed.ensures.1;
       bench = refl;
     })
 
-pub flush-spec : {M : Type 1} → statement M
-flush-spec =
+pub flush_spec : {M : Type 1} → statement M
+flush_spec =
     tie.close
     (tie.spec
     (λ c κs. tt)

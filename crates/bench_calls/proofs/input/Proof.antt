@@ -3,7 +3,7 @@
 use mathlib.Core.Path.{◌≡◌, refl}
 use lib.ListN.{length}
 use borrow.Author.Rules.{rules}
-use Rattle.bench_calls.specs.Fronts.{front-take, front-new, front-behind}
+use Rattle.bench_calls.specs.Fronts.{front_take, front_new, front_behind}
 use Rattle.bench_calls.proofs.input.Statement.{statement}
 use Rattle.bench_calls.proofs.input.Tie as tie
 
@@ -13,9 +13,9 @@ returns c =
     let receive = c.before.before.before.before.before.before.before.before.before.before.before.before.front2.ensures in
     let acks = c.before.before.before.before.before.before.before.before.before.before.front-acks.ensures in
     let promised = rw (
-      front-take _ _ _ c.before.before.before.before.before.before.before.before.before.before.before.before.before.before.front.ensures,
-      front-take _ _ _ receive,
-      front-take _ _ _ acks,
+      front_take _ _ _ c.before.before.before.before.before.before.before.before.before.before.before.before.before.before.front.ensures,
+      front_take _ _ _ receive,
+      front_take _ _ _ acks,
     ) at taken.ensures.0 in
     let pool = taken.new.1.1.0 in
     let pairs = taken.new.1.1.1.1.1.0 in
@@ -23,15 +23,15 @@ returns c =
     let also : length pairs ≡ c.before.before.before.before.before.before.before.before.before.before.front-acks.result =
     search rules in
     rw c.after-input.ensures (record {
-      promise = rw (front-new _ _ _ pool receive same, front-new _ _ _ pairs acks also) promised;
-      behind = front-behind _ _ _ pool receive same;
-      acksBehind = front-behind _ _ _ pairs acks also;
-      recordsBehind = taken.ensures.1;
+      promise = rw (front_new _ _ _ pool receive same, front_new _ _ _ pairs acks also) promised;
+      behind = front_behind _ _ _ pool receive same;
+      acks_behind = front_behind _ _ _ pairs acks also;
+      records_behind = taken.ensures.1;
       bench = refl;
     })
 
-pub input-spec : {M : Type 1} → statement M
-input-spec =
+pub input_spec : {M : Type 1} → statement M
+input_spec =
     tie.close
     (tie.spec
     (λ c κs. tt)

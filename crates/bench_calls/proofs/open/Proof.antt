@@ -1,6 +1,6 @@
 -- `bench_calls::open` meets its contract: what is lent of each slice is as much as the bench says.
 -- Assumes nothing.
-use Rattle.bench_calls.specs.Fronts.{front-take}
+use Rattle.bench_calls.specs.Fronts.{front_take}
 use Rattle.bench_calls.specs.BenchLaws.{opens}
 use Rattle.bench_calls.proofs.open.Statement.{statement}
 use Rattle.bench_calls.proofs.open.Tie as tie
@@ -8,9 +8,9 @@ use Rattle.bench_calls.proofs.open.Tie as tie
 returns : tie.Need-returns
 returns c =
     let promised = rw (
-      front-take _ _ _ c.before.before.before.before.before.before.before.before.front.ensures,
-      front-take _ _ _ c.before.before.before.before.before.before.before.front2.ensures,
-      front-take _ _ _ c.before.before.before.before.before.before.front-acks.ensures,
+      front_take _ _ _ c.before.before.before.before.before.before.before.before.front.ensures,
+      front_take _ _ _ c.before.before.before.before.before.before.before.front2.ensures,
+      front_take _ _ _ c.before.before.before.before.before.before.front-acks.ensures,
     ) at c.before.«open».ensures in
     rw c.after_open.ensures (opens _ _ _ _ _ _ _ promised)
 

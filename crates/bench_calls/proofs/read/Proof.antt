@@ -3,7 +3,7 @@
 use mathlib.Core.Path.{◌≡◌, refl}
 use lib.ListN.{length}
 use borrow.Author.Rules.{rules}
-use Rattle.bench_calls.specs.Fronts.{front-take, front-new, front-behind}
+use Rattle.bench_calls.specs.Fronts.{front_take, front_new, front_behind}
 use Rattle.bench_calls.proofs.read.Statement.{statement}
 use Rattle.bench_calls.proofs.read.Tie as tie
 
@@ -12,17 +12,17 @@ returns c =
     let got = c.before.before.before.read in
     let buffer = c.before.before.before.before.before.before.before.before.before.front3.ensures in
     let promised = rw (
-      front-take _ _ _ c.before.before.before.before.before.before.before.before.before.before.before.before.before.front.ensures,
-      front-take _ _ _
+      front_take _ _ _ c.before.before.before.before.before.before.before.before.before.before.before.before.before.front.ensures,
+      front_take _ _ _
           c.before.before.before.before.before.before.before.before.before.before.before.before.front2.ensures,
-      front-take _ _ _ c.before.before.before.before.before.before.before.before.before.before.before.front-acks.ensures,
-      front-take _ _ _ buffer,
+      front_take _ _ _ c.before.before.before.before.before.before.before.before.before.before.before.front-acks.ensures,
+      front_take _ _ _ buffer,
     ) at got.ensures in
     let new = got.new.1.1.1.1.1.1.0 in
     let same : length new ≡ c.before.before.before.before.before.before.before.before.before.front3.result = search rules in
     rw c.after_read.ensures (record {
-      promise = rw (front-new _ _ _ new buffer same) promised;
-      behind = front-behind _ _ _ new buffer same;
+      promise = rw (front_new _ _ _ new buffer same) promised;
+      behind = front_behind _ _ _ new buffer same;
       bench = refl;
     })
 

@@ -3,7 +3,7 @@
 use mathlib.Core.Path.{◌≡◌, refl}
 use lib.ListN.{length}
 use borrow.Author.Rules.{rules}
-use Rattle.bench_calls.specs.Fronts.{front-take, front-new, front-behind}
+use Rattle.bench_calls.specs.Fronts.{front_take, front_new, front_behind}
 use Rattle.bench_calls.proofs.send.Statement.{statement}
 use Rattle.bench_calls.proofs.send.Tie as tie
 
@@ -12,21 +12,21 @@ returns c =
     let sent = c.before.before.before.send in
     let front = c.before.before.before.before.before.before.before.before.before.before.front.ensures in
     let promised = rw (
-      front-take _ _ _ front,
-      front-take _ _ _ c.before.before.before.before.before.before.before.before.before.front2.ensures,
-      front-take _ _ _ c.before.before.before.before.before.before.before.before.front-acks.ensures,
+      front_take _ _ _ front,
+      front_take _ _ _ c.before.before.before.before.before.before.before.before.before.front2.ensures,
+      front_take _ _ _ c.before.before.before.before.before.before.before.before.front-acks.ensures,
     ) at sent.ensures in
     let new = sent.new.1.0 in
     let same : length new ≡ c.before.before.before.before.before.before.before.before.before.before.front.result =
     search rules in
     rw c.after-send.ensures (record {
-      promise = rw (front-new _ _ _ new front same) promised;
-      behind = front-behind _ _ _ new front same;
+      promise = rw (front_new _ _ _ new front same) promised;
+      behind = front_behind _ _ _ new front same;
       bench = refl;
     })
 
-pub send-spec : {M : Type 1} → statement M
-send-spec =
+pub send_spec : {M : Type 1} → statement M
+send_spec =
     tie.close
     (tie.spec
     (λ c κs. tt)

@@ -1,19 +1,19 @@
 -- `bench_calls::size` meets its contract: what is lent of each slice is as much as the bench says.
 -- Assumes nothing.
-use Rattle.bench_calls.specs.Fronts.{front-take}
+use Rattle.bench_calls.specs.Fronts.{front_take}
 use Rattle.bench_calls.proofs.size.Statement.{statement}
 use Rattle.bench_calls.proofs.size.Tie as tie
 
 returns : tie.Need-returns
 returns c =
     rw (
-      front-take _ _ _ c.before.before.before.before.before.before.before.front.ensures,
-      front-take _ _ _ c.before.before.before.before.before.before.front2.ensures,
-      front-take _ _ _ c.before.before.before.before.before.front-acks.ensures,
+      front_take _ _ _ c.before.before.before.before.before.before.before.front.ensures,
+      front_take _ _ _ c.before.before.before.before.before.before.front2.ensures,
+      front_take _ _ _ c.before.before.before.before.before.front-acks.ensures,
     ) at c.size.ensures
 
-pub size-spec : {M : Type 1} → statement M
-size-spec =
+pub size_spec : {M : Type 1} → statement M
+size_spec =
     tie.close
     (tie.spec
     (λ c κs. tt)

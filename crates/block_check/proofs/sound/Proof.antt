@@ -142,32 +142,32 @@ use Rattle.records.proofs.Walk.{
   fat,
   exec,
 }
-use Rattle.records.proofs.Call.{calls-fn, plainly}
+use Rattle.records.proofs.Call.{calls_fn, plainly}
 use Rattle.records.proofs.Shared.{LentShared, lends_shared, shared_back}
 use Rattle.records.proofs.Rows.{R}
-use Rattle.lending.proofs.Fields.{ref-at, lend-mut, back-mut, lend-shr, back_shr, cell_out, cell_in, tells-length, lend-whole, back_whole}
-use Rattle.lending.proofs.Locals.{envAt, allocates, frees_all, holds, empty}
+use Rattle.lending.proofs.Fields.{ref_at, lend_mut, back_mut, lend_shr, back_shr, cell_out, cell_in, tells_length, lend_whole, back_whole}
+use Rattle.lending.proofs.Locals.{env_at, allocates, frees_all, holds, empty}
 use Rattle.lending.proofs.Parts.{behind, spread, same}
 use Rattle.lending.proofs.Block.{
   L,
   Open,
   Back,
-  link-own,
-  link-shr,
-  opens-link,
-  closes-link,
-  looks-link,
-  shuts-link,
-  place-settings,
-  place-flight,
-  place-arrival,
-  place-clock,
-  place-queued,
-  place-outstanding,
-  place-transmissions,
-  place-ready,
-  place-waiting,
-  place-waiting-numbers,
+  link_own,
+  link_shr,
+  opens_link,
+  closes_link,
+  looks_link,
+  shuts_link,
+  place_settings,
+  place_flight,
+  place_arrival,
+  place_clock,
+  place_queued,
+  place_outstanding,
+  place_transmissions,
+  place_ready,
+  place_waiting,
+  place_waiting_numbers,
 }
 use Rattle.control.specs.declared.Link.{Link}
 use Rattle.timing.specs.declared.Record.{Record}
@@ -208,7 +208,7 @@ use Rattle.control.proofs.Clock.TheLaws as clock-laws
 use mathlib.Core.Bool.{Bool}
 use denote.Plain.{Boolean, bool_Lawful, bool_Makes}
 use Rattle.control.specs.Views.{Whole, arrays}
-use Rattle.marks.specs.Marks.{none, noneToSend}
+use Rattle.marks.specs.Marks.{none, none_to_send}
 use Rattle.checking.specs.Verdicts.{Sound}
 use Rattle.checking.specs.contracts.sound as core
 use Rattle.checking.proofs.sound.Symbol as core-def
@@ -235,9 +235,9 @@ module _ {M : Type 1} {𝓤 : Ura M} (𝓛 : Logic 𝓤) (at_mem : Memory → SP
   Known C = Triple 𝓤 (C core-def.name) (triple_of 𝓛 core.signature (core.spec 𝓛 at_mem run))
 
   module _ (κ₀ κ₁ κ₂ : Lft) (q₀ q₁ q₂ : Share) (b o : ℕ) (γ : GName) (h : Link) (x₁ : MutBor (List ℕ)) (x₂ : MutBor (List ℕ))
-      (req : (x₁.now ≡ noneToSend) × (x₂.now ≡ none)) where
+      (req : (x₁.now ≡ none_to_send) × (x₂.now ≡ none)) where
     abbrev x : MutBor Link × (MutBor (List ℕ) × (MutBor (List ℕ) × Unit {0}))
-    x = (ref-at b o γ h, (x₁, (x₂, tt)))
+    x = (ref_at b o γ h, (x₁, (x₂, tt)))
 
     abbrev s₁ : Val
     s₁ = vptr x₁.ptr.0 x₁.ptr.1
@@ -258,19 +258,19 @@ module _ {M : Type 1} {𝓤 : Ura M} (𝓛 : Logic 𝓤) (at_mem : Memory → SP
     Post = (walk_of 𝓛 f.ended stayed (f.clauses 𝓛 at_mem run)).post (((κ₀, (κ₁, (κ₂, tt))), (q₀, (q₁, (q₂, tt))), tt, x, at), tt)
 
     -- what core is called at, and that what it asks is had
-    abbrev to-core : (α-queued : ℕ) (δ-queued : GName) (f-queued : (List ℕ)) (α-outstanding : ℕ) (δ-outstanding : GName)
-        (f-outstanding : (List ℕ)) (α-transmissions : ℕ) (δ-transmissions : GName) (f-transmissions : (List ℕ)) (α-ready : ℕ)
-        (δ-ready : GName) (f-ready : (List ℕ)) (α-waiting : ℕ) (δ-waiting : GName) (f-waiting : (List ℕ)) (α-waiting-numbers : ℕ)
-        (δ-waiting-numbers : GName) (f-waiting-numbers : (List ℕ)) (y₀ : Settings) (u₀ : Val) (y₁ : Flight) (u₁ : Val) (y₂ : Arrival)
+    abbrev to_core : (α_queued : ℕ) (δ_queued : GName) (f_queued : (List ℕ)) (α_outstanding : ℕ) (δ_outstanding : GName)
+        (f_outstanding : (List ℕ)) (α_transmissions : ℕ) (δ_transmissions : GName) (f_transmissions : (List ℕ)) (α_ready : ℕ)
+        (δ_ready : GName) (f_ready : (List ℕ)) (α_waiting : ℕ) (δ_waiting : GName) (f_waiting : (List ℕ)) (α_waiting_numbers : ℕ)
+        (δ_waiting_numbers : GName) (f_waiting_numbers : (List ℕ)) (y₀ : Settings) (u₀ : Val) (y₁ : Flight) (u₁ : Val) (y₂ : Arrival)
         (u₂ : Val) (y₃ : Clock) (u₃ : Val) → (triple_of 𝓛 core.signature (core.spec 𝓛 at_mem run)).Ghost
-    to-core α-queued δ-queued f-queued α-outstanding δ-outstanding f-outstanding α-transmissions δ-transmissions f-transmissions α-ready
-        δ-ready f-ready α-waiting δ-waiting f-waiting α-waiting-numbers δ-waiting-numbers f-waiting-numbers y₀ u₀ y₁ u₁ y₂ u₂ y₃ u₃ = (
+    to_core α_queued δ_queued f_queued α_outstanding δ_outstanding f_outstanding α_transmissions δ_transmissions f_transmissions α_ready
+        δ_ready f_ready α_waiting δ_waiting f_waiting α_waiting_numbers δ_waiting_numbers f_waiting_numbers y₀ u₀ y₁ u₁ y₂ u₂ y₃ u₃ = (
           (
             (
-              (α-queued ∷ []),
+              (α_queued ∷ []),
               (
-                (α-outstanding ∷ []),
-                ((α-transmissions ∷ []), ((α-ready ∷ []), ((α-waiting ∷ []), ((α-waiting-numbers ∷ []), (κ₁, (κ₂, tt)))))),
+                (α_outstanding ∷ []),
+                ((α_transmissions ∷ []), ((α_ready ∷ []), ((α_waiting ∷ []), ((α_waiting_numbers ∷ []), (κ₁, (κ₂, tt)))))),
               ),
             ),
             (full_share, (full_share, (full_share, (full_share, (full_share, (full_share, (q₁, (q₂, tt)))))))),
@@ -284,14 +284,14 @@ module _ {M : Type 1} {𝓤 : Ura M} (𝓛 : Logic 𝓤) (at_mem : Memory → SP
                   (
                     y₃,
                     (
-                      (ref-at b (o + 124) δ-queued f-queued),
+                      (ref_at b (o + 124) δ_queued f_queued),
                       (
-                        (ref-at b (o + 636) δ-outstanding f-outstanding),
+                        (ref_at b (o + 636) δ_outstanding f_outstanding),
                         (
-                          (ref-at b (o + 764) δ-transmissions f-transmissions),
+                          (ref_at b (o + 764) δ_transmissions f_transmissions),
                           (
-                            (ref-at b (o + 796) δ-ready f-ready),
-                            ((ref-at b (o + 1308) δ-waiting f-waiting), ((ref-at b (o + 1820) δ-waiting-numbers f-waiting-numbers), (x₁, (x₂, tt)))),
+                            (ref_at b (o + 796) δ_ready f_ready),
+                            ((ref_at b (o + 1308) δ_waiting f_waiting), ((ref_at b (o + 1820) δ_waiting_numbers f_waiting_numbers), (x₁, (x₂, tt)))),
                           ),
                         ),
                       ),
@@ -329,45 +329,45 @@ module _ {M : Type 1} {𝓤 : Ura M} (𝓛 : Logic 𝓤) (at_mem : Memory → SP
           tt,
         )
 
-    asks-core : (α-queued : ℕ) (δ-queued : GName) (f-queued : (List ℕ)) (α-outstanding : ℕ) (δ-outstanding : GName)
-        (f-outstanding : (List ℕ)) (α-transmissions : ℕ) (δ-transmissions : GName) (f-transmissions : (List ℕ)) (α-ready : ℕ)
-        (δ-ready : GName) (f-ready : (List ℕ)) (α-waiting : ℕ) (δ-waiting : GName) (f-waiting : (List ℕ)) (α-waiting-numbers : ℕ)
-        (δ-waiting-numbers : GName) (f-waiting-numbers : (List ℕ)) → (y₀ : Settings) (u₀ : Val) → Is settings-row.the_row y₀ (u₀ ∷ [])
+    asks_core : (α_queued : ℕ) (δ_queued : GName) (f_queued : (List ℕ)) (α_outstanding : ℕ) (δ_outstanding : GName)
+        (f_outstanding : (List ℕ)) (α_transmissions : ℕ) (δ_transmissions : GName) (f_transmissions : (List ℕ)) (α_ready : ℕ)
+        (δ_ready : GName) (f_ready : (List ℕ)) (α_waiting : ℕ) (δ_waiting : GName) (f_waiting : (List ℕ)) (α_waiting_numbers : ℕ)
+        (δ_waiting_numbers : GName) (f_waiting_numbers : (List ℕ)) → (y₀ : Settings) (u₀ : Val) → Is settings-row.the_row y₀ (u₀ ∷ [])
         → (y₁ : Flight) (u₁ : Val) → Is flight-row.the_row y₁ (u₁ ∷ []) → (y₂ : Arrival) (u₂ : Val)
         → Is arrival-row.the_row y₂ (u₂ ∷ []) → (y₃ : Clock) (u₃ : Val) → Is clock-row.the_row y₃ (u₃ ∷ [])
-        → (Whole (arrays f-queued f-outstanding f-transmissions f-ready f-waiting f-waiting-numbers) × (x₁.now ≡ noneToSend) ×
-        (x₂.now ≡ none)) → ent 𝓤 (⋆ 𝓛 (‵ (flft (α-queued ∷ []) full_share)
-        ∷ ‵ ((ShrRef (named 0) (α-queued ∷ []) (Array u32 128)).own_val (ref-at b (o + 124) δ-queued f-queued) ((vptr b (o + 124)) ∷ []))
-        ∷ ‵ (flft (α-outstanding ∷ []) full_share)
-        ∷ ‵ ((ShrRef (named 0) (α-outstanding ∷ []) (Array u32 32)).own_val (ref-at b (o + 636) δ-outstanding f-outstanding)
-        ((vptr b (o + 636)) ∷ [])) ∷ ‵ (flft (α-transmissions ∷ []) full_share)
-        ∷ ‵ ((ShrRef (named 0) (α-transmissions ∷ []) (Array u8 32)).own_val (ref-at b (o + 764) δ-transmissions f-transmissions)
-        ((vptr b (o + 764)) ∷ [])) ∷ ‵ (flft (α-ready ∷ []) full_share)
-        ∷ ‵ ((ShrRef (named 0) (α-ready ∷ []) (Array u32 128)).own_val (ref-at b (o + 796) δ-ready f-ready) ((vptr b (o + 796)) ∷ []))
-        ∷ ‵ (flft (α-waiting ∷ []) full_share)
-        ∷ ‵ ((ShrRef (named 0) (α-waiting ∷ []) (Array u32 128)).own_val (ref-at b (o + 1308) δ-waiting f-waiting) ((vptr b (o + 1308)) ∷ []))
-        ∷ ‵ (flft (α-waiting-numbers ∷ []) full_share)
-        ∷ ‵ ((ShrRef (named 0) (α-waiting-numbers ∷ []) (Array u32 128)).own_val (ref-at b (o + 1820) δ-waiting-numbers f-waiting-numbers)
+        → (Whole (arrays f_queued f_outstanding f_transmissions f_ready f_waiting f_waiting_numbers) × (x₁.now ≡ none_to_send) ×
+        (x₂.now ≡ none)) → ent 𝓤 (⋆ 𝓛 (‵ (flft (α_queued ∷ []) full_share)
+        ∷ ‵ ((ShrRef (named 0) (α_queued ∷ []) (Array u32 128)).own_val (ref_at b (o + 124) δ_queued f_queued) ((vptr b (o + 124)) ∷ []))
+        ∷ ‵ (flft (α_outstanding ∷ []) full_share)
+        ∷ ‵ ((ShrRef (named 0) (α_outstanding ∷ []) (Array u32 32)).own_val (ref_at b (o + 636) δ_outstanding f_outstanding)
+        ((vptr b (o + 636)) ∷ [])) ∷ ‵ (flft (α_transmissions ∷ []) full_share)
+        ∷ ‵ ((ShrRef (named 0) (α_transmissions ∷ []) (Array u8 32)).own_val (ref_at b (o + 764) δ_transmissions f_transmissions)
+        ((vptr b (o + 764)) ∷ [])) ∷ ‵ (flft (α_ready ∷ []) full_share)
+        ∷ ‵ ((ShrRef (named 0) (α_ready ∷ []) (Array u32 128)).own_val (ref_at b (o + 796) δ_ready f_ready) ((vptr b (o + 796)) ∷ []))
+        ∷ ‵ (flft (α_waiting ∷ []) full_share)
+        ∷ ‵ ((ShrRef (named 0) (α_waiting ∷ []) (Array u32 128)).own_val (ref_at b (o + 1308) δ_waiting f_waiting) ((vptr b (o + 1308)) ∷ []))
+        ∷ ‵ (flft (α_waiting_numbers ∷ []) full_share)
+        ∷ ‵ ((ShrRef (named 0) (α_waiting_numbers ∷ []) (Array u32 128)).own_val (ref_at b (o + 1820) δ_waiting_numbers f_waiting_numbers)
         ((vptr b (o + 1820)) ∷ [])) ∷ ‵ (flft κ₁ q₁) ∷ ‵ Own₁ ∷ ‵ (flft κ₂ q₂) ∷ ‵ Own₂ ∷ []))
         ((triple_of 𝓛 core.signature (core.spec 𝓛 at_mem run)).pre
-        (to-core α-queued δ-queued f-queued α-outstanding δ-outstanding f-outstanding α-transmissions δ-transmissions f-transmissions
-        α-ready δ-ready f-ready α-waiting δ-waiting f-waiting α-waiting-numbers δ-waiting-numbers f-waiting-numbers y₀ u₀ y₁ u₁ y₂ u₂ y₃
+        (to_core α_queued δ_queued f_queued α_outstanding δ_outstanding f_outstanding α_transmissions δ_transmissions f_transmissions
+        α_ready δ_ready f_ready α_waiting δ_waiting f_waiting α_waiting_numbers δ_waiting_numbers f_waiting_numbers y₀ u₀ y₁ u₁ y₂ u₂ y₃
         u₃))
-    asks-core α-queued δ-queued f-queued α-outstanding δ-outstanding f-outstanding α-transmissions δ-transmissions f-transmissions α-ready
-        δ-ready f-ready α-waiting δ-waiting f-waiting α-waiting-numbers δ-waiting-numbers f-waiting-numbers y₀ u₀ is₀ y₁ u₁ is₁ y₂ u₂ is₂
+    asks_core α_queued δ_queued f_queued α_outstanding δ_outstanding f_outstanding α_transmissions δ_transmissions f_transmissions α_ready
+        δ_ready f_ready α_waiting δ_waiting f_waiting α_waiting_numbers δ_waiting_numbers f_waiting_numbers y₀ u₀ is₀ y₁ u₁ is₁ y₂ u₂ is₂
         y₃ u₃ is₃ req =
-        qed 𝓛 (‵ (flft (α-queued ∷ []) full_share)
-        ∷ ‵ ((ShrRef (named 0) (α-queued ∷ []) (Array u32 128)).own_val (ref-at b (o + 124) δ-queued f-queued) ((vptr b (o + 124)) ∷ []))
-        ∷ ‵ (flft (α-outstanding ∷ []) full_share)
-        ∷ ‵ ((ShrRef (named 0) (α-outstanding ∷ []) (Array u32 32)).own_val (ref-at b (o + 636) δ-outstanding f-outstanding)
-        ((vptr b (o + 636)) ∷ [])) ∷ ‵ (flft (α-transmissions ∷ []) full_share)
-        ∷ ‵ ((ShrRef (named 0) (α-transmissions ∷ []) (Array u8 32)).own_val (ref-at b (o + 764) δ-transmissions f-transmissions)
-        ((vptr b (o + 764)) ∷ [])) ∷ ‵ (flft (α-ready ∷ []) full_share)
-        ∷ ‵ ((ShrRef (named 0) (α-ready ∷ []) (Array u32 128)).own_val (ref-at b (o + 796) δ-ready f-ready) ((vptr b (o + 796)) ∷ []))
-        ∷ ‵ (flft (α-waiting ∷ []) full_share)
-        ∷ ‵ ((ShrRef (named 0) (α-waiting ∷ []) (Array u32 128)).own_val (ref-at b (o + 1308) δ-waiting f-waiting)
-        ((vptr b (o + 1308)) ∷ [])) ∷ ‵ (flft (α-waiting-numbers ∷ []) full_share)
-        ∷ ‵ ((ShrRef (named 0) (α-waiting-numbers ∷ []) (Array u32 128)).own_val (ref-at b (o + 1820) δ-waiting-numbers f-waiting-numbers)
+        qed 𝓛 (‵ (flft (α_queued ∷ []) full_share)
+        ∷ ‵ ((ShrRef (named 0) (α_queued ∷ []) (Array u32 128)).own_val (ref_at b (o + 124) δ_queued f_queued) ((vptr b (o + 124)) ∷ []))
+        ∷ ‵ (flft (α_outstanding ∷ []) full_share)
+        ∷ ‵ ((ShrRef (named 0) (α_outstanding ∷ []) (Array u32 32)).own_val (ref_at b (o + 636) δ_outstanding f_outstanding)
+        ((vptr b (o + 636)) ∷ [])) ∷ ‵ (flft (α_transmissions ∷ []) full_share)
+        ∷ ‵ ((ShrRef (named 0) (α_transmissions ∷ []) (Array u8 32)).own_val (ref_at b (o + 764) δ_transmissions f_transmissions)
+        ((vptr b (o + 764)) ∷ [])) ∷ ‵ (flft (α_ready ∷ []) full_share)
+        ∷ ‵ ((ShrRef (named 0) (α_ready ∷ []) (Array u32 128)).own_val (ref_at b (o + 796) δ_ready f_ready) ((vptr b (o + 796)) ∷ []))
+        ∷ ‵ (flft (α_waiting ∷ []) full_share)
+        ∷ ‵ ((ShrRef (named 0) (α_waiting ∷ []) (Array u32 128)).own_val (ref_at b (o + 1308) δ_waiting f_waiting)
+        ((vptr b (o + 1308)) ∷ [])) ∷ ‵ (flft (α_waiting_numbers ∷ []) full_share)
+        ∷ ‵ ((ShrRef (named 0) (α_waiting_numbers ∷ []) (Array u32 128)).own_val (ref_at b (o + 1820) δ_waiting_numbers f_waiting_numbers)
         ((vptr b (o + 1820)) ∷ [])) ∷ ‵ (flft κ₁ q₁) ∷ ‵ Own₁ ∷ ‵ (flft κ₂ q₂) ∷ ‵ Own₂ ∷ []) ∵ says ! req $ nothing ! $
         move ! (15 ∷ 0 ∷ []) $ join ! $ move ! (13 ∷ 0 ∷ []) $ join ! $ move ! (11 ∷ 0 ∷ []) $ join ! $ move ! (9 ∷ 0 ∷ []) $ join ! $
         move ! (7 ∷ 0 ∷ []) $ join ! $ move ! (5 ∷ 0 ∷ []) $ join ! $ move ! (3 ∷ 0 ∷ []) $ join ! $ move ! (1 ∷ 0 ∷ []) $ join ! $
@@ -401,23 +401,23 @@ module _ {M : Type 1} {𝓤 : Ura M} (𝓛 : Logic 𝓤) (at_mem : Memory → SP
     module _ (C : Calls 𝓤 H) (Λ : Loops 𝓤 H) (fm : FmC 𝓤 H 𝓛.laws C) (known : Known C) where
       -- where the locals lie
       abbrev En : (ℕ → ℕ) → Env 𝓤 H
-      En p = envAt (code.function).locals p
+      En p = env_at (code.function).locals p
 
       -- part 1: what it knows, what it tells; what it has, and leaves
       abbrev Known₁ : Type 0
       Known₁ = Unit {0}
 
       abbrev New₁ : Known₁ → Type 0
-      New₁ past = (q' : Share) × (len-queued : length h.queued ≡ 128) × (len-outstanding : length h.outstanding ≡ 32) ×
-          (len-transmissions : length h.transmissions ≡ 32) × (len-ready : length h.ready ≡ 128) ×
-          (len-waiting : length h.waiting ≡ 128) × (len-waiting-numbers : length h.waiting_numbers ≡ 128) ×
-          (was-settings : Is settings-row.the_row h.settings ((LL.vals settings-row.the_type settings-laws.the_laws) h.settings)) ×
-          (was-flight : Is flight-row.the_row h.flight ((LL.vals flight-row.the_type flight-laws.the_laws) h.flight)) ×
-          (was-arrival : Is arrival-row.the_row h.arrival ((LL.vals arrival-row.the_type arrival-laws.the_laws) h.arrival)) ×
+      New₁ past = (q' : Share) × (len_queued : length h.queued ≡ 128) × (len_outstanding : length h.outstanding ≡ 32) ×
+          (len_transmissions : length h.transmissions ≡ 32) × (len_ready : length h.ready ≡ 128) ×
+          (len_waiting : length h.waiting ≡ 128) × (len_waiting_numbers : length h.waiting_numbers ≡ 128) ×
+          (was_settings : Is settings-row.the_row h.settings ((LL.vals settings-row.the_type settings-laws.the_laws) h.settings)) ×
+          (was_flight : Is flight-row.the_row h.flight ((LL.vals flight-row.the_type flight-laws.the_laws) h.flight)) ×
+          (was_arrival : Is arrival-row.the_row h.arrival ((LL.vals arrival-row.the_type arrival-laws.the_laws) h.arrival)) ×
           (Is clock-row.the_row h.clock ((LL.vals clock-row.the_type clock-laws.the_laws) h.clock))
 
       abbrev Has₁ : (ℕ → ℕ) → Known₁ → List (Item 𝓤) → List (Item 𝓤)
-      Has₁ p past Γ = ‵ (flft κ₀ q₀) ∷ ‵ (link-shr κ₀ b o γ h) ∷ ‵ (froom clock-laws.mir (p 7) 0) ∷ ‵ (froom arrival-laws.mir (p 6) 0)
+      Has₁ p past Γ = ‵ (flft κ₀ q₀) ∷ ‵ (link_shr κ₀ b o γ h) ∷ ‵ (froom clock-laws.mir (p 7) 0) ∷ ‵ (froom arrival-laws.mir (p 6) 0)
           ∷ ‵ (froom flight-laws.mir (p 5) 0) ∷ ‵ (froom settings-laws.mir (p 4) 0)
           ∷ ‵ (fat full_share (ty_ref (named 0) imm (pointee L.written)) (p 1) 0 (vptr b o)) ∷ Γ
 
@@ -442,80 +442,80 @@ module _ {M : Type 1} {𝓤 : Ura M} (𝓛 : Logic 𝓤) (at_mem : Memory → SP
       part₁ {Γ = Γ} t p past on = record {
         prf =
             qed 𝓛 (Has₁ p past Γ) ∵ exec ! C Λ (En p) (behind 0 (code.function).body) (at_ret (En p) Post) $
-            move ! (1 ∷ 0 ∷ []) $ looks-link b o γ ! tt h (λ q'.
+            move ! (1 ∷ 0 ∷ []) $ looks_link b o γ ! tt h (λ q'.
             -- [F:settings; F:flight; F:arrival; F:clock; F:queued; F:outstanding; F:transmissions; F:ready; F:waiting; F:«waiting_numbers»;
             -- back; opened; the locals]
-            move ! (4 ∷ []) $ tells-length ! q' u32 128 h.queued b (o + 124)
-            (λ len-queued. move ! (5 ∷ []) $
-            tells-length ! q' u32 32 h.outstanding b (o + 636)
-            (λ len-outstanding. move ! (6 ∷ []) $
-            tells-length ! q' u8 32 h.transmissions b (o + 764)
-            (λ len-transmissions. move ! (7 ∷ []) $
-            tells-length ! q' u32 128 h.ready b (o + 796)
-            (λ len-ready. move ! (8 ∷ []) $
-            tells-length ! q' u32 128 h.waiting b (o + 1308)
-            (λ len-waiting. move ! (9 ∷ []) $
-            tells-length ! q' u32 128 h.waiting_numbers b (o + 1820)
-            (λ len-waiting-numbers. move ! (6 ∷ []) $
+            move ! (4 ∷ []) $ tells_length ! q' u32 128 h.queued b (o + 124)
+            (λ len_queued. move ! (5 ∷ []) $
+            tells_length ! q' u32 32 h.outstanding b (o + 636)
+            (λ len_outstanding. move ! (6 ∷ []) $
+            tells_length ! q' u8 32 h.transmissions b (o + 764)
+            (λ len_transmissions. move ! (7 ∷ []) $
+            tells_length ! q' u32 128 h.ready b (o + 796)
+            (λ len_ready. move ! (8 ∷ []) $
+            tells_length ! q' u32 128 h.waiting b (o + 1308)
+            (λ len_waiting. move ! (9 ∷ []) $
+            tells_length ! q' u32 128 h.waiting_numbers b (o + 1820)
+            (λ len_waiting_numbers. move ! (6 ∷ []) $
             cell_out ! q' settings-row.the_row (LL.vals settings-row.the_type settings-laws.the_laws)
-            (LL.tells settings-row.the_type settings-laws.the_laws) h.settings b (o + 0) (λ was-settings.
+            (LL.tells settings-row.the_type settings-laws.the_laws) h.settings b (o + 0) (λ was_settings.
             assigns ! {v = (only ((LL.vals settings-row.the_type settings-laws.the_laws) h.settings))}
-            (of_opd ! (load ! (place-settings ! (look ! 16 refl)) (look_raw ! 0 refl))) (from ! (stop !))
+            (of_opd ! (load ! (place_settings ! (look ! 16 refl)) (look_raw ! 0 refl))) (from ! (stop !))
             (init ! 15 refl ((LL.lawful settings-row.the_type settings-laws.the_laws 𝓛).typed h.settings
-            ((only ((LL.vals settings-row.the_type settings-laws.the_laws) h.settings)) ∷ []) was-settings).0) $
+            ((only ((LL.vals settings-row.the_type settings-laws.the_laws) h.settings)) ∷ []) was_settings).0) $
             cell_in ! q' settings-row.the_row (LL.makes settings-row.the_type settings-laws.the_plain 𝓛) h.settings b (o + 0)
-            (only ((LL.vals settings-row.the_type settings-laws.the_laws) h.settings)) was-settings $ move ! (7 ∷ []) $
+            (only ((LL.vals settings-row.the_type settings-laws.the_laws) h.settings)) was_settings $ move ! (7 ∷ []) $
             cell_out ! q' flight-row.the_row (LL.vals flight-row.the_type flight-laws.the_laws)
-            (LL.tells flight-row.the_type flight-laws.the_laws) h.flight b (o + 16) (λ was-flight.
+            (LL.tells flight-row.the_type flight-laws.the_laws) h.flight b (o + 16) (λ was_flight.
             assigns ! {v = (only ((LL.vals flight-row.the_type flight-laws.the_laws) h.flight))}
-            (of_opd ! (load ! (place-flight ! (look ! 16 refl)) (look_raw ! 0 refl))) (from ! (stop !))
+            (of_opd ! (load ! (place_flight ! (look ! 16 refl)) (look_raw ! 0 refl))) (from ! (stop !))
             (init ! 14 refl ((LL.lawful flight-row.the_type flight-laws.the_laws 𝓛).typed h.flight
-            ((only ((LL.vals flight-row.the_type flight-laws.the_laws) h.flight)) ∷ []) was-flight).0) $
+            ((only ((LL.vals flight-row.the_type flight-laws.the_laws) h.flight)) ∷ []) was_flight).0) $
             cell_in ! q' flight-row.the_row (LL.makes flight-row.the_type flight-laws.the_plain 𝓛) h.flight b (o + 16)
-            (only ((LL.vals flight-row.the_type flight-laws.the_laws) h.flight)) was-flight $ move ! (8 ∷ []) $
+            (only ((LL.vals flight-row.the_type flight-laws.the_laws) h.flight)) was_flight $ move ! (8 ∷ []) $
             cell_out ! q' arrival-row.the_row (LL.vals arrival-row.the_type arrival-laws.the_laws)
-            (LL.tells arrival-row.the_type arrival-laws.the_laws) h.arrival b (o + 72) (λ was-arrival.
+            (LL.tells arrival-row.the_type arrival-laws.the_laws) h.arrival b (o + 72) (λ was_arrival.
             assigns ! {v = (only ((LL.vals arrival-row.the_type arrival-laws.the_laws) h.arrival))}
-            (of_opd ! (load ! (place-arrival ! (look ! 16 refl)) (look_raw ! 0 refl))) (from ! (stop !))
+            (of_opd ! (load ! (place_arrival ! (look ! 16 refl)) (look_raw ! 0 refl))) (from ! (stop !))
             (init ! 13 refl ((LL.lawful arrival-row.the_type arrival-laws.the_laws 𝓛).typed h.arrival
-            ((only ((LL.vals arrival-row.the_type arrival-laws.the_laws) h.arrival)) ∷ []) was-arrival).0) $
+            ((only ((LL.vals arrival-row.the_type arrival-laws.the_laws) h.arrival)) ∷ []) was_arrival).0) $
             cell_in ! q' arrival-row.the_row (LL.makes arrival-row.the_type arrival-laws.the_plain 𝓛) h.arrival b (o + 72)
-            (only ((LL.vals arrival-row.the_type arrival-laws.the_laws) h.arrival)) was-arrival $ move ! (9 ∷ []) $
+            (only ((LL.vals arrival-row.the_type arrival-laws.the_laws) h.arrival)) was_arrival $ move ! (9 ∷ []) $
             cell_out ! q' clock-row.the_row (LL.vals clock-row.the_type clock-laws.the_laws)
-            (LL.tells clock-row.the_type clock-laws.the_laws) h.clock b (o + 104) (λ was-clock.
+            (LL.tells clock-row.the_type clock-laws.the_laws) h.clock b (o + 104) (λ was_clock.
             assigns ! {v = (only ((LL.vals clock-row.the_type clock-laws.the_laws) h.clock))}
-            (of_opd ! (load ! (place-clock ! (look ! 16 refl)) (look_raw ! 0 refl))) (from ! (stop !))
+            (of_opd ! (load ! (place_clock ! (look ! 16 refl)) (look_raw ! 0 refl))) (from ! (stop !))
             (init ! 12 refl ((LL.lawful clock-row.the_type clock-laws.the_laws 𝓛).typed h.clock
-            ((only ((LL.vals clock-row.the_type clock-laws.the_laws) h.clock)) ∷ []) was-clock).0) $
+            ((only ((LL.vals clock-row.the_type clock-laws.the_laws) h.clock)) ∷ []) was_clock).0) $
             cell_in ! q' clock-row.the_row (LL.makes clock-row.the_type clock-laws.the_plain 𝓛) h.clock b (o + 104)
-            (only ((LL.vals clock-row.the_type clock-laws.the_laws) h.clock)) was-clock $
+            (only ((LL.vals clock-row.the_type clock-laws.the_laws) h.clock)) was_clock $
             same ! (on (
               q',
-              len-queued,
-              len-outstanding,
-              len-transmissions,
-              len-ready,
-              len-waiting,
-              len-waiting-numbers,
-              was-settings,
-              was-flight,
-              was-arrival,
-              was-clock,
+              len_queued,
+              len_outstanding,
+              len_transmissions,
+              len_ready,
+              len_waiting,
+              len_waiting_numbers,
+              was_settings,
+              was_flight,
+              was_arrival,
+              was_clock,
             )))))))))))));
       }
 
       -- part 2: what it knows, what it tells; what it has, and leaves
       abbrev Known₂ : Type 0
-      Known₂ = (q' : Share) × (len-queued : length h.queued ≡ 128) × (len-outstanding : length h.outstanding ≡ 32) ×
-          (len-transmissions : length h.transmissions ≡ 32) × (len-ready : length h.ready ≡ 128) ×
-          (len-waiting : length h.waiting ≡ 128) × (len-waiting-numbers : length h.waiting_numbers ≡ 128) ×
-          (was-settings : Is settings-row.the_row h.settings ((LL.vals settings-row.the_type settings-laws.the_laws) h.settings)) ×
-          (was-flight : Is flight-row.the_row h.flight ((LL.vals flight-row.the_type flight-laws.the_laws) h.flight)) ×
-          (was-arrival : Is arrival-row.the_row h.arrival ((LL.vals arrival-row.the_type arrival-laws.the_laws) h.arrival)) ×
+      Known₂ = (q' : Share) × (len_queued : length h.queued ≡ 128) × (len_outstanding : length h.outstanding ≡ 32) ×
+          (len_transmissions : length h.transmissions ≡ 32) × (len_ready : length h.ready ≡ 128) ×
+          (len_waiting : length h.waiting ≡ 128) × (len_waiting_numbers : length h.waiting_numbers ≡ 128) ×
+          (was_settings : Is settings-row.the_row h.settings ((LL.vals settings-row.the_type settings-laws.the_laws) h.settings)) ×
+          (was_flight : Is flight-row.the_row h.flight ((LL.vals flight-row.the_type flight-laws.the_laws) h.flight)) ×
+          (was_arrival : Is arrival-row.the_row h.arrival ((LL.vals arrival-row.the_type arrival-laws.the_laws) h.arrival)) ×
           (Is clock-row.the_row h.clock ((LL.vals clock-row.the_type clock-laws.the_laws) h.clock))
 
       abbrev New₂ : Known₂ → Type 0
-      New₂ past = (z₂ : (List ℕ)) × (z₁ : (List ℕ)) × (r : Bool) × (w-r : Val) × (e-r : Sound h z₁ z₂ r) × (Is Boolean r (w-r ∷ []))
+      New₂ past = (z₂ : (List ℕ)) × (z₁ : (List ℕ)) × (r : Bool) × (w_r : Val) × (e_r : Sound h z₁ z₂ r) × (Is Boolean r (w_r ∷ []))
 
       abbrev Has₂ : (ℕ → ℕ) → Known₂ → List (Item 𝓤) → List (Item 𝓤)
       Has₂ p past Γ = ‵ (part_at clock-row.the_row past.0 h.clock b (o + 104))
@@ -565,58 +565,58 @@ module _ {M : Type 1} {𝓤 : Ura M} (𝓛 : Logic 𝓤) (at_mem : Memory → SP
       part₂ {Γ = Γ} t p past on = record {
         prf =
             qed 𝓛 (Has₂ p past Γ) ∵ exec ! C Λ (En p) (behind 4 (code.function).body) (at_ret (En p) Post) $
-            assigns ! {v = (vptr b (o + 124))} (addr ! (place-queued ! (look ! 16 refl))) (from ! (stop !)) (init ! 28 refl (tt, tt)) $
-            assigns ! {v = (vptr b (o + 636))} (addr ! (place-outstanding ! (look ! 16 refl))) (from ! (stop !)) (init ! 27 refl (tt, tt)) $
-            assigns ! {v = (vptr b (o + 764))} (addr ! (place-transmissions ! (look ! 16 refl))) (from ! (stop !)) (init ! 26 refl (tt, tt)) $
-            assigns ! {v = (vptr b (o + 796))} (addr ! (place-ready ! (look ! 16 refl))) (from ! (stop !)) (init ! 25 refl (tt, tt)) $
-            assigns ! {v = (vptr b (o + 1308))} (addr ! (place-waiting ! (look ! 16 refl))) (from ! (stop !)) (init ! 24 refl (tt, tt)) $
-            assigns ! {v = (vptr b (o + 1820))} (addr ! (place-waiting-numbers ! (look ! 16 refl))) (from ! (stop !))
+            assigns ! {v = (vptr b (o + 124))} (addr ! (place_queued ! (look ! 16 refl))) (from ! (stop !)) (init ! 28 refl (tt, tt)) $
+            assigns ! {v = (vptr b (o + 636))} (addr ! (place_outstanding ! (look ! 16 refl))) (from ! (stop !)) (init ! 27 refl (tt, tt)) $
+            assigns ! {v = (vptr b (o + 764))} (addr ! (place_transmissions ! (look ! 16 refl))) (from ! (stop !)) (init ! 26 refl (tt, tt)) $
+            assigns ! {v = (vptr b (o + 796))} (addr ! (place_ready ! (look ! 16 refl))) (from ! (stop !)) (init ! 25 refl (tt, tt)) $
+            assigns ! {v = (vptr b (o + 1308))} (addr ! (place_waiting ! (look ! 16 refl))) (from ! (stop !)) (init ! 24 refl (tt, tt)) $
+            assigns ! {v = (vptr b (o + 1820))} (addr ! (place_waiting_numbers ! (look ! 16 refl))) (from ! (stop !))
             (init ! 23 refl (tt, tt)) $
             assigns ! {v = s₁} (addr ! (from ! (hop ! (look ! 30 refl) (stop !)))) (from ! (stop !)) (init ! 22 refl (tt, tt)) $
             assigns ! {v = s₂} (addr ! (from ! (hop ! (look ! 29 refl) (stop !)))) (from ! (stop !)) (init ! 21 refl (tt, tt)) $
-            move ! (9 ∷ []) $ lend-shr ! tt past.0 (Array u32 128) h.queued b (o + 124)
-            (λ α-queued δ-queued. move ! (11 ∷ []) $
-            lend-shr ! tt past.0 (Array u32 32) h.outstanding b (o + 636)
-            (λ α-outstanding δ-outstanding. move ! (13 ∷ []) $
-            lend-shr ! tt past.0 (Array u8 32) h.transmissions b (o + 764)
-            (λ α-transmissions δ-transmissions. move ! (15 ∷ []) $
-            lend-shr ! tt past.0 (Array u32 128) h.ready b (o + 796)
-            (λ α-ready δ-ready. move ! (17 ∷ []) $
-            lend-shr ! tt past.0 (Array u32 128) h.waiting b (o + 1308)
-            (λ α-waiting δ-waiting. move ! (19 ∷ []) $
-            lend-shr ! tt past.0 (Array u32 128) h.waiting_numbers b (o + 1820)
-            (λ α-waiting-numbers δ-waiting-numbers. move ! (15 ∷ 16 ∷ 12 ∷ 13 ∷ 9 ∷ 10 ∷ 6 ∷ 7 ∷ 3 ∷ 4 ∷ 0 ∷ 1 ∷ 29 ∷ 31 ∷ 30
-            ∷ 32 ∷ []) $ group ! 16 $ calls-fn ! fm core.ended (core.clauses 𝓛 at_mem run) (known)
-            (to-core α-queued δ-queued h.queued α-outstanding δ-outstanding h.outstanding α-transmissions δ-transmissions
-            h.transmissions α-ready δ-ready h.ready α-waiting δ-waiting h.waiting α-waiting-numbers δ-waiting-numbers
+            move ! (9 ∷ []) $ lend_shr ! tt past.0 (Array u32 128) h.queued b (o + 124)
+            (λ α_queued δ_queued. move ! (11 ∷ []) $
+            lend_shr ! tt past.0 (Array u32 32) h.outstanding b (o + 636)
+            (λ α_outstanding δ_outstanding. move ! (13 ∷ []) $
+            lend_shr ! tt past.0 (Array u8 32) h.transmissions b (o + 764)
+            (λ α_transmissions δ_transmissions. move ! (15 ∷ []) $
+            lend_shr ! tt past.0 (Array u32 128) h.ready b (o + 796)
+            (λ α_ready δ_ready. move ! (17 ∷ []) $
+            lend_shr ! tt past.0 (Array u32 128) h.waiting b (o + 1308)
+            (λ α_waiting δ_waiting. move ! (19 ∷ []) $
+            lend_shr ! tt past.0 (Array u32 128) h.waiting_numbers b (o + 1820)
+            (λ α_waiting_numbers δ_waiting_numbers. move ! (15 ∷ 16 ∷ 12 ∷ 13 ∷ 9 ∷ 10 ∷ 6 ∷ 7 ∷ 3 ∷ 4 ∷ 0 ∷ 1 ∷ 29 ∷ 31 ∷ 30
+            ∷ 32 ∷ []) $ group ! 16 $ calls_fn ! fm core.ended (core.clauses 𝓛 at_mem run) (known)
+            (to_core α_queued δ_queued h.queued α_outstanding δ_outstanding h.outstanding α_transmissions δ_transmissions
+            h.transmissions α_ready δ_ready h.ready α_waiting δ_waiting h.waiting α_waiting_numbers δ_waiting_numbers
             h.waiting_numbers h.settings (only ((LL.vals settings-row.the_type settings-laws.the_laws) h.settings)) h.flight
             (only ((LL.vals flight-row.the_type flight-laws.the_laws) h.flight)) h.arrival
             (only ((LL.vals arrival-row.the_type arrival-laws.the_laws) h.arrival)) h.clock
             (only ((LL.vals clock-row.the_type clock-laws.the_laws) h.clock)))
             (λ r ws-r. Sound h ws-r.1.1.1.1.1.1.1.1.1.1.0 ws-r.1.1.1.1.1.1.1.1.1.1.1.0 r)
-            (‵ (flft (α-queued ∷ []) full_share) ⊛ ‵ ((ShrRef (named 0) (α-queued ∷ []) (Array u32 128)).own_val
-            (ref-at b (o + 124) δ-queued h.queued) ((vptr b (o + 124)) ∷ [])) ⊛ ‵ (flft (α-outstanding ∷ []) full_share) ⊛ ‵
-            ((ShrRef (named 0) (α-outstanding ∷ []) (Array u32 32)).own_val (ref-at b (o + 636) δ-outstanding h.outstanding)
-            ((vptr b (o + 636)) ∷ [])) ⊛ ‵ (flft (α-transmissions ∷ []) full_share) ⊛ ‵
-            ((ShrRef (named 0) (α-transmissions ∷ []) (Array u8 32)).own_val (ref-at b (o + 764) δ-transmissions h.transmissions)
-            ((vptr b (o + 764)) ∷ [])) ⊛ ‵ (flft (α-ready ∷ []) full_share) ⊛ ‵
-            ((ShrRef (named 0) (α-ready ∷ []) (Array u32 128)).own_val (ref-at b (o + 796) δ-ready h.ready) ((vptr b (o + 796)) ∷ [])) ⊛ ‵
-            (flft (α-waiting ∷ []) full_share) ⊛ ‵ ((ShrRef (named 0) (α-waiting ∷ []) (Array u32 128)).own_val
-            (ref-at b (o + 1308) δ-waiting h.waiting) ((vptr b (o + 1308)) ∷ [])) ⊛ ‵ (flft (α-waiting-numbers ∷ []) full_share) ⊛ ‵
-            ((ShrRef (named 0) (α-waiting-numbers ∷ []) (Array u32 128)).own_val (ref-at b (o + 1820) δ-waiting-numbers h.waiting_numbers)
+            (‵ (flft (α_queued ∷ []) full_share) ⊛ ‵ ((ShrRef (named 0) (α_queued ∷ []) (Array u32 128)).own_val
+            (ref_at b (o + 124) δ_queued h.queued) ((vptr b (o + 124)) ∷ [])) ⊛ ‵ (flft (α_outstanding ∷ []) full_share) ⊛ ‵
+            ((ShrRef (named 0) (α_outstanding ∷ []) (Array u32 32)).own_val (ref_at b (o + 636) δ_outstanding h.outstanding)
+            ((vptr b (o + 636)) ∷ [])) ⊛ ‵ (flft (α_transmissions ∷ []) full_share) ⊛ ‵
+            ((ShrRef (named 0) (α_transmissions ∷ []) (Array u8 32)).own_val (ref_at b (o + 764) δ_transmissions h.transmissions)
+            ((vptr b (o + 764)) ∷ [])) ⊛ ‵ (flft (α_ready ∷ []) full_share) ⊛ ‵
+            ((ShrRef (named 0) (α_ready ∷ []) (Array u32 128)).own_val (ref_at b (o + 796) δ_ready h.ready) ((vptr b (o + 796)) ∷ [])) ⊛ ‵
+            (flft (α_waiting ∷ []) full_share) ⊛ ‵ ((ShrRef (named 0) (α_waiting ∷ []) (Array u32 128)).own_val
+            (ref_at b (o + 1308) δ_waiting h.waiting) ((vptr b (o + 1308)) ∷ [])) ⊛ ‵ (flft (α_waiting_numbers ∷ []) full_share) ⊛ ‵
+            ((ShrRef (named 0) (α_waiting_numbers ∷ []) (Array u32 128)).own_val (ref_at b (o + 1820) δ_waiting_numbers h.waiting_numbers)
             ((vptr b (o + 1820)) ∷ [])) ⊛ ‵ (flft κ₁ q₁) ⊛ ‵ Own₁ ⊛ ‵ (flft κ₂ q₂) ⊛ ‵ Own₂)
-            (asks-core α-queued δ-queued h.queued α-outstanding δ-outstanding h.outstanding α-transmissions δ-transmissions
-            h.transmissions α-ready δ-ready h.ready α-waiting δ-waiting h.waiting α-waiting-numbers δ-waiting-numbers
+            (asks_core α_queued δ_queued h.queued α_outstanding δ_outstanding h.outstanding α_transmissions δ_transmissions
+            h.transmissions α_ready δ_ready h.ready α_waiting δ_waiting h.waiting α_waiting_numbers δ_waiting_numbers
             h.waiting_numbers h.settings (only ((LL.vals settings-row.the_type settings-laws.the_laws) h.settings)) past.7
             h.flight (only ((LL.vals flight-row.the_type flight-laws.the_laws) h.flight)) past.8 h.arrival
             (only ((LL.vals arrival-row.the_type arrival-laws.the_laws) h.arrival)) past.9 h.clock
             (only ((LL.vals clock-row.the_type clock-laws.the_laws) h.clock)) past.10 (
               record {
-                whole-queued = past.1;
-                whole-outstanding = past.2;
-                whole-transmissions = past.3;
+                whole_queued = past.1;
+                whole_outstanding = past.2;
+                whole_transmissions = past.3;
                 whole_ready = past.4;
-                whole-waiting = past.5;
+                whole_waiting = past.5;
                 whole_numbers = past.6;
               },
               req.0,
@@ -634,10 +634,10 @@ module _ {M : Type 1} {𝓤 : Ura M} (𝓛 : Logic 𝓤) (at_mem : Memory → SP
             (and_then ! (load ! (from ! (stop !)) (look ! 20 refl))
             (and_then ! (load ! (from ! (stop !)) (look ! 19 refl))
             (and_then ! (load ! (from ! (stop !)) (look ! 18 refl)) (no_more !)))))))))))))
-            (λ r w-r ws-r e-r is-r. land ! (from ! (stop !)) (init ! 29 refl ((bool_Lawful 𝓛).typed r _ is-r).0) $
-            spread 𝓛 (‵ (flft (α-queued ∷ []) full_share))
-            (‵ (flft (α-outstanding ∷ []) full_share) ∷ ‵ (flft (α-transmissions ∷ []) full_share) ∷ ‵ (flft (α-ready ∷ []) full_share)
-            ∷ ‵ (flft (α-waiting ∷ []) full_share) ∷ ‵ (flft (α-waiting-numbers ∷ []) full_share) ∷ ‵ (flft κ₁ q₁)
+            (λ r w_r ws-r e_r is_r. land ! (from ! (stop !)) (init ! 29 refl ((bool_Lawful 𝓛).typed r _ is_r).0) $
+            spread 𝓛 (‵ (flft (α_queued ∷ []) full_share))
+            (‵ (flft (α_outstanding ∷ []) full_share) ∷ ‵ (flft (α_transmissions ∷ []) full_share) ∷ ‵ (flft (α_ready ∷ []) full_share)
+            ∷ ‵ (flft (α_waiting ∷ []) full_share) ∷ ‵ (flft (α_waiting_numbers ∷ []) full_share) ∷ ‵ (flft κ₁ q₁)
             ∷ ‵ (flft κ₂ q₂) ∷ ‵ ftrue ∷ []) (id⊢ 𝓤 _) $ move ! (9 ∷ []) $
             spread 𝓛 (‵ ftrue) (‵ ftrue ∷ ‵ ftrue ∷ ‵ ftrue ∷ ‵ ftrue ∷ ‵ ftrue ∷ ‵ ftrue ∷ ‵ ftrue ∷ ‵ ftrue ∷ ‵ ftrue
             ∷ ‵ (fres x₁.name ((Array u8 128).coded.code ws-r.1.1.1.1.1.1.1.1.1.1.0))
@@ -652,9 +652,9 @@ module _ {M : Type 1} {𝓤 : Ura M} (𝓛 : Logic 𝓤) (at_mem : Memory → SP
             back_shr ! tt past.0 (Array u32 128) b (o + 796) h.ready $ move ! (6 ∷ 11 ∷ []) $
             back_shr ! tt past.0 (Array u32 128) b (o + 1308) h.waiting $ move ! (7 ∷ 10 ∷ []) $
             back_shr ! tt past.0 (Array u32 128) b (o + 1820) h.waiting_numbers $
-            move ! (13 ∷ 12 ∷ 11 ∷ 10 ∷ 5 ∷ 4 ∷ 3 ∷ 2 ∷ 1 ∷ 0 ∷ 14 ∷ 15 ∷ []) $ shuts-link b o γ ! tt past.0 h $
+            move ! (13 ∷ 12 ∷ 11 ∷ 10 ∷ 5 ∷ 4 ∷ 3 ∷ 2 ∷ 1 ∷ 0 ∷ 14 ∷ 15 ∷ []) $ shuts_link b o γ ! tt past.0 h $
             -- [tok0; fin1; fin2; tok1; tok2; the locals]
-            same ! (on (ws-r.1.1.1.1.1.1.1.1.1.1.1.0, ws-r.1.1.1.1.1.1.1.1.1.1.0, r, w-r, e-r, is-r)))))))));
+            same ! (on (ws-r.1.1.1.1.1.1.1.1.1.1.1.0, ws-r.1.1.1.1.1.1.1.1.1.1.0, r, w_r, e_r, is_r)))))))));
       }
 
       walk : ent 𝓤 (on_entry 𝓛 f.signature (κ₀, (κ₁, (κ₂, tt))) (q₀, (q₁, (q₂, tt))) x at)
@@ -665,7 +665,7 @@ module _ {M : Type 1} {𝓤 : Ura M} (𝓛 : Logic 𝓤) (at_mem : Memory → SP
           ∵ enter ! C Λ code.function (vptr b o ∷ s₁ ∷ s₂ ∷ []) _ $
           allocates ! (code.function).locals (λ p. params1 ! $
           pass1 ! (init ! 15 refl (tt, tt)) $ pass1 ! (init ! 14 refl (tt, tt)) $ pass1 ! (init ! 13 refl (tt, tt)) $ pass0 ! $
-          move ! (18 ∷ []) $ spread 𝓛 (‵ ((ShrRef (named 0) κ₀ L).own_val (ref-at b o γ h) (vptr b o ∷ [])))
+          move ! (18 ∷ []) $ spread 𝓛 (‵ ((ShrRef (named 0) κ₀ L).own_val (ref_at b o γ h) (vptr b o ∷ [])))
           (‵ ((MutRef (named 1) κ₁ (Array u8 128)).own_val (x₁) (s₁ ∷ [])) ∷ ‵ ((MutRef (named 2) κ₂ (Array u8 256)).own_val (x₂) (s₂ ∷ []))
           ∷ ‵ ftrue ∷ []) (id⊢ 𝓤 _) $ move ! (21 ∷ []) $
           spread 𝓛 (‵ (flft κ₀ q₀)) (‵ (flft κ₁ q₁) ∷ ‵ (flft κ₂ q₂) ∷ ‵ ftrue ∷ []) (id⊢ 𝓤 _) $ move ! (7 ∷ 3 ∷ []) $
@@ -718,9 +718,9 @@ module _ {M : Type 1} {𝓤 : Ura M} (𝓛 : Logic 𝓤) (at_mem : Memory → SP
       (λ κs qs bounds a g are. needs 𝓤 _ _ (λ req. walk κs.0 κs.1.0 κs.1.1.0 qs.0 qs.1.0 qs.1.1.0 a.0.ptr.0
       a.0.ref_ptr.1 a.0.ghost_name a.0.now a.1.0 a.1.1.0 req 𝓣.C 𝓣.Λ (fm_of 𝓤 H 𝓛.laws 𝓣) known)))
 
-pub sound-spec : {M : Type 1} → stated.statement M
+pub sound_spec : {M : Type 1} → stated.statement M
 unfolding code.routine tables_of
-sound-spec 𝓤 𝓛 𝓜 𝓡 =
+sound_spec 𝓤 𝓛 𝓜 𝓡 =
     entered 𝓤 𝓛.H (triple_of 𝓛 f.signature (f.spec 𝓛 𝓜.mem 𝓡.run))
     (tables 𝓤 𝓛.H 𝓜 𝓡 code.env).C (tables 𝓤 𝓛.H 𝓜 𝓡 code.env).Λ #f code.function (code.unfolded 𝓤 𝓛.H 𝓜 𝓡)
     (f_meets 𝓛 𝓜.mem 𝓡.run (tables_of 𝓤 𝓛.H 𝓜 (tables 𝓤 𝓛.H 𝓜 𝓡 code.env)) (

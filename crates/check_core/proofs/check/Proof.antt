@@ -5,13 +5,13 @@ use mathlib.Core.List.{List}
 use Prim.Native.Nat.{ℕ}
 use borrow.Author.Rules.{rules}
 use lib.ListN.{take}
-use Rattle.record_words.specs.RecordWords.{recordsIn}
-use Rattle.record_words.specs.RecordLaws.{records-length}
-use Rattle.checking.specs.Verdicts.{verdictOf}
+use Rattle.record_words.specs.RecordWords.{records_in}
+use Rattle.record_words.specs.RecordLaws.{records_length}
+use Rattle.checking.specs.Verdicts.{verdict_of}
 use Rattle.checking.specs.VerdictLaws.{admitted}
 use Rattle.schedule.specs.Schedules.{dues_of, named}
 use Rattle.schedule.specs.declared.Schedule.{Schedule}
-use Rattle.control.specs.Views.{arrays, link_of, blockValid}
+use Rattle.control.specs.Views.{arrays, link_of, block_valid}
 use Rattle.control.specs.declared.Link.{Link}
 use Rattle.check_core.proofs.Dues.{names, refuses}
 use Rattle.check_core.proofs.check.Statement.{statement}
@@ -28,15 +28,15 @@ block s =
 judged : (c : tie.After-judged) (acks : List ℕ)
     → let sizes = c.before.before in
     let start = sizes.before.before.before.before in
-    c.judged.result ≡ verdictOf sizes.enough.result (blockValid (block start) (recordsIn start.args.records.now) acks)
+    c.judged.result ≡ verdict_of sizes.enough.result (block_valid (block start) (records_in start.args.records.now) acks)
 judged c acks =
     let fits = c.before in
     let sizes = fits.before in
     let start = sizes.before.before.before.before in
     let marked = start.requires.2 in
-    (admitted (block start) (recordsIn start.args.records.now) marked.0 marked.1.0 sizes.enough.result
+    (admitted (block start) (records_in start.args.records.now) marked.0 marked.1.0 sizes.enough.result
     start.args.sound fits.flight-fits.result c.judged.result c.judged.ensures marked.1.1
-    (record { whole = records-length 32 _ start.requires.1; fits = fits.flight-fits.ensures })).verdict acks
+    (record { whole = records_length 32 _ start.requires.1; fits = fits.flight-fits.ensures })).verdict acks
 
 flight-fits-requires : tie.Need-flight-fits-requires
 flight-fits-requires c κs = c.before.before.before.before.requires.1
@@ -52,11 +52,11 @@ returns c =
     let sizes = checks.before.before in
     let start = sizes.before.before.before.before in
     let a = start.args in
-    names (block start) start.requires.0 (recordsIn a.records.now) a.acks.now _ _ _ sizes.enough.ensures (judged checks _)
+    names (block start) start.requires.0 (records_in a.records.now) a.acks.now _ _ _ sizes.enough.ensures (judged checks _)
     a.t branch.enum_told.given.1 _
     (c.check.ensures
     ∙ ap (λ (s : Schedule). named s a.t a.settings.interval
-    (dues_of (take a.flight.outstanding (recordsIn a.records.now)))) schedules.schedule-of.ensures)
+    (dues_of (take a.flight.outstanding (records_in a.records.now)))) schedules.schedule-of.ensures)
 
 returns-2 : tie.Need-returns-2
 returns-2 c =
@@ -64,11 +64,11 @@ returns-2 c =
     let sizes = checks.before.before in
     let start = sizes.before.before.before.before in
     let a = start.args in
-    refuses (block start) start.requires.0 (recordsIn a.records.now) a.acks.now _ _ _ sizes.enough.ensures (judged checks _)
+    refuses (block start) start.requires.0 (records_in a.records.now) a.acks.now _ _ _ sizes.enough.ensures (judged checks _)
     a.t _ c.before.verdict.given.1
 
-pub check-spec : {M : Type 1} → statement M
-check-spec =
+pub check_spec : {M : Type 1} → statement M
+check_spec =
     tie.close
     (tie.spec
     (λ c κs. search rules)

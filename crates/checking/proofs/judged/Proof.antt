@@ -4,8 +4,8 @@ use Rattle.checking.proofs.Turns.{not-true, not-false}
 use Rattle.checking.proofs.judged.Statement.{statement}
 use Rattle.checking.proofs.judged.Tie as tie
 
-pub judged-spec : {M : Type 1} → statement M
-judged-spec =
+pub judged_spec : {M : Type 1} → statement M
+judged_spec =
     tie.close
     (tie.spec
     (λ c. let a = c.before.args in rw (not-true a.long c.if1.true))

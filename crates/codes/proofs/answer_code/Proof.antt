@@ -12,6 +12,6 @@ returns-2 : tie.Need-returns-2
 returns-2 c = rw c.before.before.answer.given.1
     (passed _ (code_fits c.before.before.answer.given.0.0) c.refusal-code.ensures)
 
-pub answer-code-spec : {M : Type 1} → statement M
-answer-code-spec =
+pub answer_code_spec : {M : Type 1} → statement M
+answer_code_spec =
     tie.close (tie.spec (λ c. search rules) (λ c. search rules) (λ c κs. search rules) returns returns-2)

@@ -12,7 +12,7 @@ returns-2 : tie.Need-returns-2
 returns-2 c = rw c.before.before.count2.given.1
     (passed _ (code_fits c.before.before.count2.given.0.0) c.refusal-code.ensures)
 
-pub count-code-spec : {M : Type 1} → statement M
-count-code-spec =
+pub count_code_spec : {M : Type 1} → statement M
+count_code_spec =
     tie.close
     (tie.spec (λ c. search rules) (λ c κs. search rules) (λ c. search rules) (λ c κs. search rules) returns returns-2)

@@ -15,5 +15,5 @@ sub-result c = rw (to_z_pos w32 c.args.number (omega arith)) (negative_fits c.ar
 returns : tie.Need-returns
 returns c = rw (to_z-of_z w32 _ (sub-result c), to_z_pos w32 c.args.number (omega arith))
 
-pub number-code-spec : {M : Type 1} → statement M
-number-code-spec = tie.close (tie.spec (λ c. search rules) sub-result returns)
+pub number_code_spec : {M : Type 1} → statement M
+number_code_spec = tie.close (tie.spec (λ c. search rules) sub-result returns)

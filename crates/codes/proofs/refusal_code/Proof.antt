@@ -8,5 +8,5 @@ use Rattle.codes.proofs.refusal_code.Tie as tie
 returns : tie.Need-returns
 returns c = passed _ (code_fits c.before.before.args.refusal) (rw c.before.number.ensures at c.number-code.ensures)
 
-pub refusal-code-spec : {M : Type 1} → statement M
-refusal-code-spec = tie.close (tie.spec (λ c κs. search rules) (λ c κs. search rules) returns)
+pub refusal_code_spec : {M : Type 1} → statement M
+refusal_code_spec = tie.close (tie.spec (λ c κs. search rules) (λ c κs. search rules) returns)

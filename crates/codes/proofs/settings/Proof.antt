@@ -18,8 +18,8 @@ returns c =
     )
     c.settings.ensures
 
-pub settings-spec : {M : Type 1} → statement M
-settings-spec =
+pub settings_spec : {M : Type 1} → statement M
+settings_spec =
     tie.close
     (tie.spec
     (λ c κs. search rules)

@@ -22,5 +22,5 @@ returns-2 c =
     let large : 2147483647 ≡ min n 2147483647 = omega (arith, c.if1.false) in
     ap pos large
 
-pub size-code-spec : {M : Type 1} → statement M
-size-code-spec = tie.close (tie.spec (λ c. search rules) returns returns-2)
+pub size_code_spec : {M : Type 1} → statement M
+size_code_spec = tie.close (tie.spec (λ c. search rules) returns returns-2)

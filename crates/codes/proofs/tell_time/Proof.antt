@@ -13,5 +13,5 @@ returns-2 : tie.Need-returns-2
 returns-2 c = rw c.before.before.time2.given.1
     (passed _ (code_fits c.before.before.time2.given.0.0) c.refusal-code.ensures, refl)
 
-pub tell-time-spec : {M : Type 1} → statement M
-tell-time-spec = tie.close (tie.spec (λ c. search rules) (λ c. search rules) (λ c κs. search rules) returns returns-2)
+pub tell_time_spec : {M : Type 1} → statement M
+tell_time_spec = tie.close (tie.spec (λ c. search rules) (λ c. search rules) (λ c κs. search rules) returns returns-2)

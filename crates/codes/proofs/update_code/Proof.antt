@@ -16,8 +16,8 @@ returns-3 : tie.Need-returns-3
 returns-3 c = rw c.before.before.update2.given.1
     (passed _ (code_fits c.before.before.update2.given.0.0) c.refusal-code.ensures)
 
-pub update-code-spec : {M : Type 1} → statement M
-update-code-spec =
+pub update_code_spec : {M : Type 1} → statement M
+update_code_spec =
     tie.close
     (tie.spec
     (λ c. search rules)

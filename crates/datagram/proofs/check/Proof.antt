@@ -16,8 +16,8 @@ use Rattle.datagram.specs.declared.Verdict.TheVariants.{Passes, Fails}
 use Rattle.datagram.specs.declared.Checked.{Checked}
 use Rattle.datagram.specs.declared.Checked.TheVariants.{Accepted, Refused}
 use Rattle.datagram.specs.Datagrams.{verdict, walk, parse, counted}
-use Rattle.datagram.specs.FoundLaws.{found-whole, found-short}
-use Rattle.datagram.specs.WalkLaws.{passed, tail-empty, tail-junk, walk_end, walk_at, parse-long, parse-short, counted-front}
+use Rattle.datagram.specs.FoundLaws.{found_whole, found_short}
+use Rattle.datagram.specs.WalkLaws.{passed, tail_empty, tail_junk, walk_end, walk_at, parse_long, parse_short, counted_front}
 use Rattle.datagram.proofs.check.Statement.{statement}
 use Rattle.datagram.proofs.check.Tie as tie
 
@@ -36,23 +36,23 @@ record GoesOn (conv mss : ℕ) (s : List ℕ) (i count : ℕ) (whole : Checked) 
 -- whole is the answer for a datagram of which count segments stand before index i
 module _ (conv mss : ℕ) (s : List ℕ) (i count : ℕ) (whole : Checked) (e : counted count (walk conv mss 0 (drop i s)) ≡ whole) where
   stops : header_at s i ≡ Short → length s ≤ i → Accepted count ≡ whole
-  stops f h = rw (walk_end conv mss s i (found-short s i f), tail-empty (drop i s) (rw length-drop (omega arith)), add-zero) at e
+  stops f h = rw (walk_end conv mss s i (found_short s i f), tail_empty (drop i s) (rw length-drop (omega arith)), add-zero) at e
 
-  refuses-tail : header_at s i ≡ Short → i < length s → Refused TrailingBytes ≡ whole
-  refuses-tail f h = rw (walk_end conv mss s i (found-short s i f), tail-junk (drop i s) (rw length-drop (omega arith))) at e
+  refuses_tail : header_at s i ≡ Short → i < length s → Refused TrailingBytes ≡ whole
+  refuses_tail f h = rw (walk_end conv mss s i (found_short s i f), tail_junk (drop i s) (rw length-drop (omega arith))) at e
 
   module _ (h : Header) (f : header_at s i ≡ Whole h) where
     refuses : (r : Refusal) → verdict conv mss (length s - (i + 24)) h ≡ Fails r → Refused r ≡ whole
     refuses r v =
-        let w = found-whole s i h f in
+        let w = found_whole s i h f in
         rw (walk_at conv mss s i w.inside, ← w.header, v) at e
 
     goes_on : verdict conv mss (length s - (i + 24)) h ≡ Passes → GoesOn conv mss s i count whole h
     goes_on v =
-        let w = found-whole s i h f in
+        let w = found_whole s i h f in
         record {
           inside = omega (arith, w.inside, (passed _ _ _ _ v).inside);
-          rest = rw (walk_at conv mss s i w.inside, ← w.header, v, counted-front) at e;
+          rest = rw (walk_at conv mss s i w.inside, ← w.header, v, counted_front) at e;
         }
 
 -- a header was found at the loop's position
@@ -74,12 +74,12 @@ went_on c =
     (sym c.before.before.judge.ensures ∙ c.enum-told2.given.1)
 
 loop-holds : tie.Need-loop-init invariant-loop decreases-loop
-loop-holds c = (omega arith, omega arith, rw (parse-long _ _ _ c.if1.false))
+loop-holds c = (omega arith, omega arith, rw (parse_long _ _ _ c.if1.false))
 
 returns-2 : tie.Need-returns-2 invariant-loop decreases-loop
 returns-2 c =
     let call = c.before.before.before in
-    refuses-tail _ _ _ _ _ _ call.before.loop.invariant.2 (sym call.find-header.ensures ∙ c.before.enum_told.given.1)
+    refuses_tail _ _ _ _ _ _ call.before.loop.invariant.2 (sym call.find-header.ensures ∙ c.before.enum_told.given.1)
     c.if2.true
 
 returns-3 : tie.Need-returns-3 invariant-loop decreases-loop
@@ -97,21 +97,21 @@ returns-4 c =
 loop-again : tie.Need-loop-preserved invariant-loop decreases-loop
 loop-again c = let w = went_on c.before in (w.inside, omega arith, w.rest)
 
-pub check-spec : {M : Type 1} → statement M
-check-spec =
+pub check_spec : {M : Type 1} → statement M
+check_spec =
     tie.close
     (tie.spec
     invariant-loop
     decreases-loop
-    (λ c. rw (parse-short _ _ _ c.if1.true))
+    (λ c. rw (parse_short _ _ _ c.if1.true))
     loop-holds
     (search rules)
     (search rules)
     (search rules)
     returns-2
     returns-3
-    (λ c. omega (arith, (found-whole _ _ _ (found c)).inside))
-    (λ c. omega (arith, (found-whole _ _ _ (found c)).inside))
+    (λ c. omega (arith, (found_whole _ _ _ (found c)).inside))
+    (λ c. omega (arith, (found_whole _ _ _ (found c)).inside))
     (search rules)
     (search rules)
     returns-4

@@ -22,17 +22,17 @@ module _ (conv mss room : ℕ) (h : Header) where
   unfolding verdict
   past_end a b = simp tests
 
-  command-low : h.conv ≡ conv → h.len ≤ room → h.cmd < 81 → Fails UnknownCommand ≡ verdict conv mss room h
+  command_low : h.conv ≡ conv → h.len ≤ room → h.cmd < 81 → Fails UnknownCommand ≡ verdict conv mss room h
   unfolding verdict
-  command-low a b d = simp tests
+  command_low a b d = simp tests
 
-  command-high : h.conv ≡ conv → h.len ≤ room → 81 ≤ h.cmd → 84 < h.cmd → Fails UnknownCommand ≡ verdict conv mss room h
+  command_high : h.conv ≡ conv → h.len ≤ room → 81 ≤ h.cmd → 84 < h.cmd → Fails UnknownCommand ≡ verdict conv mss room h
   unfolding verdict
-  command-high a b d e = simp tests
+  command_high a b d e = simp tests
 
-  no-push : h.conv ≡ conv → h.len ≤ room → 81 ≤ h.cmd → h.cmd ≤ 84 → (h.cmd ≡ 81 → ⊥) → Passes ≡ verdict conv mss room h
+  no_push : h.conv ≡ conv → h.len ≤ room → 81 ≤ h.cmd → h.cmd ≤ 84 → (h.cmd ≡ 81 → ⊥) → Passes ≡ verdict conv mss room h
   unfolding verdict
-  no-push a b d e f = simp tests
+  no_push a b d e f = simp tests
 
   payload : h.conv ≡ conv → h.len ≤ room → h.cmd ≡ 81 → mss < h.len → Fails LongPayload ≡ verdict conv mss room h
   unfolding verdict
@@ -46,16 +46,16 @@ module _ (conv mss room : ℕ) (h : Header) where
   unfolding verdict
   push a b d e f = simp (d, tests)
 
-pub judge-spec : {M : Type 1} → statement M
-judge-spec =
+pub judge_spec : {M : Type 1} → statement M
+judge_spec =
     tie.close
     (tie.spec
     (search rules)
     (λ c. conversation _ _ _ _ (search rules))
     (λ c. past_end _ _ _ _ (search rules) (search rules))
-    (λ c. command-low _ _ _ _ (search rules) (search rules) (search rules))
-    (λ c. command-high _ _ _ _ (search rules) (search rules) (search rules) (search rules))
-    (λ c. no-push _ _ _ _ (search rules) (search rules) (search rules) (search rules) (search rules))
+    (λ c. command_low _ _ _ _ (search rules) (search rules) (search rules))
+    (λ c. command_high _ _ _ _ (search rules) (search rules) (search rules) (search rules))
+    (λ c. no_push _ _ _ _ (search rules) (search rules) (search rules) (search rules) (search rules))
     (λ c. payload _ _ _ _ (search rules) (search rules) (search rules) (search rules))
     (λ c. fragment _ _ _ _ (search rules) (search rules) (search rules) (search rules) (search rules))
     (λ c. push _ _ _ _ (search rules) (search rules) (search rules) (search rules) (search rules)))

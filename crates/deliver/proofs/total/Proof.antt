@@ -5,14 +5,14 @@ use Prim.Native.Nat.{◌+◌, ◌-◌, ◌*◌, ◌≤◌}
 use native.Mathlib.Omega.{arith}
 use borrow.Author.Rules.{rules}
 use Rattle.session.specs.Reading.{length_of}
-use Rattle.words.specs.Words.{heldIn}
+use Rattle.words.specs.Words.{held_in}
 use Rattle.deliver.proofs.Fronts.{rest}
-use Rattle.deliver.proofs.Copies.{total-more, total-end}
+use Rattle.deliver.proofs.Copies.{total_more, total_end}
 use Rattle.deliver.proofs.total.Statement.{statement}
 use Rattle.deliver.proofs.total.Tie as tie
 
 abbrev invariant-loop : tie.invariant-loop
-invariant-loop ready k sum₀ i₀ sum i = (i ≤ k) × (sum ≤ 65535 * i) × (length_of (heldIn ready k) ≡ sum + length_of (rest ready k i))
+invariant-loop ready k sum₀ i₀ sum i = (i ≤ k) × (sum ≤ 65535 * i) × (length_of (held_in ready k) ≡ sum + length_of (rest ready k i))
 
 abbrev decreases-loop : tie.decreases-loop
 decreases-loop ready k sum₀ i₀ sum i = k - i
@@ -23,17 +23,17 @@ loop-again c =
     let a = l.before in (
       search rules,
       search rules,
-      total-more a.args.ready.now a.args.k l.loop.i _ l.loop.sum l.loop.invariant.2 _
+      total_more a.args.ready.now a.args.k l.loop.i _ l.loop.sum l.loop.invariant.2 _
           c.before.before.loop-test.true (omega (arith, a.requires)) c.len_of.ensures.0,
     )
 
 returns : tie.Need-returns invariant-loop decreases-loop
 returns c =
     let l = c.before in
-    sym (total-end l.before.args.ready.now l.before.args.k l.loop.i _ l.loop.sum l.loop.invariant.2 c.loop-test.false)
+    sym (total_end l.before.args.ready.now l.before.args.k l.loop.i _ l.loop.sum l.loop.invariant.2 c.loop-test.false)
 
-pub total-spec : {M : Type 1} → statement M
-total-spec =
+pub total_spec : {M : Type 1} → statement M
+total_spec =
     tie.close
     (tie.spec
     invariant-loop

@@ -6,11 +6,11 @@ use native.Mathlib.Omega.{arith}
 use borrow.Author.Rules.{rules}
 use borrow.Author.Tests.{ltb-true, ltb-false}
 use lib.ListN.{length}
-use Rattle.session.specs.FillLaws.{filled-length}
-use Rattle.words.specs.Words.{heldIn}
+use Rattle.session.specs.FillLaws.{filled_length}
+use Rattle.words.specs.Words.{held_in}
 use Rattle.enqueue.proofs.Counts.{count_most}
 use Rattle.enqueue.proofs.Lasts.{has_room}
-use Rattle.enqueue.proofs.Follow.{marked-most, follows-long, follows-full, follows-placed}
+use Rattle.enqueue.proofs.Follow.{marked_most, follows_long, follows_full, follows_placed}
 use Rattle.enqueue.proofs.enqueue.Statement.{statement}
 use Rattle.enqueue.proofs.enqueue.Tie as tie
 
@@ -21,7 +21,7 @@ add-full c =
     omega (arith, c.segment-count.ensures, count_most s.args.stream s.args.mss rest s.requires.some, s.requires.held-most, s.well-formed)
 
 returns : tie.Need-returns
-returns c t p = follows-long p _ _ c.before.before.before.last-room.ensures c.before.before.least.ensures
+returns c t p = follows_long p _ _ c.before.before.before.last-room.ensures c.before.before.least.ensures
     (ltb-true _ _ c.if1.true)
 
 -- past the test of 10
@@ -30,7 +30,7 @@ short c = ltb-false _ _ c.if1.false
 
 returns-2 : tie.Need-returns-2
 returns-2 c t p =
-    follows-full p _ _ c.before.before.before.before.last-room.ensures c.before.before.before.least.ensures
+    follows_full p _ _ c.before.before.before.before.last-room.ensures c.before.before.before.least.ensures
     c.before.before.segment-count.ensures (short c.before)
     c.before.before.before.before.before.before.before.before.requires.held-most (ltb-true _ _ c.if2.true)
 
@@ -45,10 +45,10 @@ fill-requires c κs =
     let has = c.before.before.before.before.before.before.last-room.ensures in
     record {
       whole = s.requires.whole;
-      most = s.requires.queued-most;
+      most = s.requires.queued_most;
       taken = c.before.before.before.before.before.least.ensures;
       within = λ h. rw has (has_room s.args.stream s.args.mss s.args.queued.now s.args.n
-          (omega (arith, s.requires.whole, s.requires.queued-most)) (rw has at h));
+          (omega (arith, s.requires.whole, s.requires.queued_most)) (rw has at h));
       low = s.requires.low;
       word = s.requires.word;
       slots = s.requires.slots;
@@ -64,14 +64,14 @@ place-requires c κs =
       record {
         whole = f.whole;
         room = omega arith;
-        marks-whole = s.requires.marks-whole;
-        marked = marked-most _ (omega arith) s.requires.marked;
+        marks_whole = s.requires.marks_whole;
+        marked = marked_most _ (omega arith) s.requires.marked;
         word = s.requires.word;
         slots = omega (
           arith,
           s.requires.slots,
-          ap length f.pool-is,
-          filled-length s.args.mss (heldIn s.args.queued.now s.args.n) s.args.pool.now s.args.message.now
+          ap length f.pool_is,
+          filled_length s.args.mss (held_in s.args.queued.now s.args.n) s.args.pool.now s.args.message.now
               s.args.stream,
         );
       },
@@ -79,13 +79,13 @@ place-requires c κs =
 
 returns-3 : tie.Need-returns-3
 returns-3 c t p =
-    follows-placed p _ _ c.before.before.before.before.before.before.before.before.before.before.before.before.before.before.last-room.ensures c.before.before.before.before.before.before.before.before.before.before.before.before.before.least.ensures c.before.before.before.before.before.before.before.before.before.before.before.before.segment-count.ensures
+    follows_placed p _ _ c.before.before.before.before.before.before.before.before.before.before.before.before.before.before.last-room.ensures c.before.before.before.before.before.before.before.before.before.before.before.before.before.least.ensures c.before.before.before.before.before.before.before.before.before.before.before.before.segment-count.ensures
     (short c.before.before.before.before.before.before.before.before.before.before.before)
     (room c.before.before.before.before.before.before.before.before.before.before) _ _ _ _ _
     c.before.before.before.before.before.before.before.fill.ensures c.before.before.place.ensures
 
-pub enqueue-spec : {M : Type 1} → statement M
-enqueue-spec =
+pub enqueue_spec : {M : Type 1} → statement M
+enqueue_spec =
     tie.close
     (tie.spec
     (λ c κs. search rules)

@@ -5,12 +5,12 @@ use Prim.Native.Nat.{◌+◌, ◌-◌, ◌*◌, ◌^◌, ◌≤◌, ◌<◌}
 use native.Mathlib.Omega.{arith}
 use borrow.Author.Rules.{rules}
 use lib.ListN.{length, get_or}
-use Rattle.enqueue.proofs.Lasts.{fills-none, fills-some, fill_end, low_byte, last-low}
+use Rattle.enqueue.proofs.Lasts.{fills_none, fills_some, fill_end, low_byte, last_low}
 use Rattle.enqueue.proofs.fill.Statement.{statement}
 use Rattle.enqueue.proofs.fill.Tie as tie
 
 returns : tie.Need-returns
-returns c = let p = c.before.before.before.requires in fills-none _ _ _ _ _ _ p.whole p.most c.if1.true
+returns c = let p = c.before.before.before.requires in fills_none _ _ _ _ _ _ p.whole p.most c.if1.true
 
 -- there is room, and one is queued
 has : (c : tie.Else1) → 0 < c.before.before.before.args.room
@@ -32,7 +32,7 @@ ends c =
     let e = c.before.before in
     fill_end (get_or s.args.queued.now (s.args.n - 1) 0) s.args.mss s.args.room s.args.k (length s.args.pool.now)
     c.unpacked.ensures
-    (last-low s.args.queued.now s.args.n (some e) s.requires.most s.requires.whole s.requires.low) (s.requires.within (has e)).1
+    (last_low s.args.queued.now s.args.n (some e) s.requires.most s.requires.whole s.requires.low) (s.requires.within (has e)).1
     (omega (arith, s.requires.taken)) s.requires.slots
 
 -- an address of the pool has 64 bits
@@ -75,7 +75,7 @@ returns-2 : tie.Need-returns-2
 returns-2 c =
     let s = c.before.before.before.before.before.before.before.before.before.before.before.before in
     let e = c.before.before.before.before.before.before.before.before.before in
-    fills-some s.args.mss s.args.queued.now s.args.n s.args.room s.args.pool.now s.args.message.now
+    fills_some s.args.mss s.args.queued.now s.args.n s.args.room s.args.pool.now s.args.message.now
     s.requires.whole s.requires.most
     c.before.before.before.before.before.before.before.unpacked.result c.word_of.result s.args.k _ (some e) (has e)
     s.requires.taken c.before.before.before.before.before.before.before.unpacked.ensures c.word_of.ensures

@@ -4,7 +4,7 @@ use mathlib.Core.Path.{sym, ap}
 use native.Mathlib.Omega.{arith}
 use borrow.Author.Rules.{rules}
 use Rattle.lists.specs.declared.Held.{Held}
-use Rattle.enqueue.proofs.Lasts.{room-off, room-none, room-some}
+use Rattle.enqueue.proofs.Lasts.{room_off, room_none, room_some}
 use Rattle.enqueue.proofs.last_room.Statement.{statement}
 use Rattle.enqueue.proofs.last_room.Tie as tie
 
@@ -15,7 +15,7 @@ returns c =
     let some = c.before.before.before.before.if2.true in
     omega (
       arith,
-      room-some s.args.stream stream s.args.mss s.args.queued.now s.args.n some (omega (arith, s.requires.0, s.requires.1)),
+      room_some s.args.stream stream s.args.mss s.args.queued.now s.args.n some (omega (arith, s.requires.0, s.requires.1)),
       c.least.ensures,
       ap (λ (h : Held). h.len) c.before.before.unpacked.ensures,
     )
@@ -23,13 +23,13 @@ returns c =
 returns-2 : tie.Need-returns-2
 returns-2 c =
     let a = c.before.before.args in
-    sym (room-none a.stream a.mss a.queued.now a.n (omega (arith, c.if2.false)))
+    sym (room_none a.stream a.mss a.queued.now a.n (omega (arith, c.if2.false)))
 
 returns-3 : tie.Need-returns-3
-returns-3 c = sym (room-off _ c.if1.false _ _)
+returns-3 c = sym (room_off _ c.if1.false _ _)
 
-pub last-room-spec : {M : Type 1} → statement M
-last-room-spec =
+pub last_room_spec : {M : Type 1} → statement M
+last_room_spec =
     tie.close
     (tie.spec
     (λ c. search rules)

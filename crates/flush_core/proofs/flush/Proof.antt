@@ -4,11 +4,11 @@ use mathlib.Core.Path.{◌≡◌}
 use mathlib.Core.List.{List}
 use Prim.Native.Nat.{ℕ}
 use borrow.Author.Rules.{rules}
-use Rattle.record_words.specs.RecordWords.{recordsIn}
-use Rattle.record_words.specs.RecordLaws.{records-length}
-use Rattle.control.specs.Views.{arrays, link_of, blockValid}
+use Rattle.record_words.specs.RecordWords.{records_in}
+use Rattle.record_words.specs.RecordLaws.{records_length}
+use Rattle.control.specs.Views.{arrays, link_of, block_valid}
 use Rattle.control.specs.declared.Link.{Link}
-use Rattle.checking.specs.Verdicts.{verdictOf}
+use Rattle.checking.specs.Verdicts.{verdict_of}
 use Rattle.checking.specs.VerdictLaws.{admitted}
 use Rattle.flush_core.proofs.Checks.{flushable, ran, unflushed}
 use Rattle.flush_core.proofs.flush.Statement.{statement}
@@ -25,16 +25,16 @@ block s =
 judged : (c : tie.After-judged) (acks : List ℕ)
     → let sizes = c.before.before.before in
     let start = sizes.before.before.before.before.before.before in
-    c.judged.result ≡ verdictOf sizes.enough-to-flush.result
-    (blockValid (block start) (recordsIn start.args.records.now) acks)
+    c.judged.result ≡ verdict_of sizes.enough-to-flush.result
+    (block_valid (block start) (records_in start.args.records.now) acks)
 judged c acks =
     let fits = c.before in
     let sizes = fits.before.before in
     let start = sizes.before.before.before.before.before.before in
     let marked = start.requires.2 in
-    (admitted (block start) (recordsIn start.args.records.now) marked.0 marked.1.0 sizes.enough-to-flush.result
+    (admitted (block start) (records_in start.args.records.now) marked.0 marked.1.0 sizes.enough-to-flush.result
     start.args.sound fits.flight-fits.result c.judged.result c.judged.ensures marked.1.1
-    (record { whole = records-length 32 _ start.requires.1; fits = fits.flight-fits.ensures })).verdict acks
+    (record { whole = records_length 32 _ start.requires.1; fits = fits.flight-fits.ensures })).verdict acks
 
 flight-fits-requires : tie.Need-flight-fits-requires
 flight-fits-requires c κs = c.before.before.before.before.before.before.before.requires.1
@@ -77,8 +77,8 @@ returns-2 c =
       start.requires.1,
     )
 
-pub flush-spec : {M : Type 1} → statement M
-flush-spec =
+pub flush_spec : {M : Type 1} → statement M
+flush_spec =
     tie.close
     (tie.spec
     (λ c κs. search rules)

@@ -2,13 +2,13 @@
 -- Assumes nothing.
 use Prim.Native.Nat.{◌<◌, ◌^◌}
 use borrow.Author.Rules.{rules}
-use Rattle.flush_core.proofs.Ready.{few-ready, numberable, countable, writable}
+use Rattle.flush_core.proofs.Ready.{few_ready, numberable, countable, writable}
 use Rattle.flush_core.proofs.Results.{runs}
 use Rattle.flush_core.proofs.flush_now.Statement.{statement}
 use Rattle.flush_core.proofs.flush_now.Tie as tie
 
 plan-of-requires : tie.Need-plan-of-requires
-plan-of-requires c κs = few-ready _ _ _ _ _ _ _ _ _ _ _ c.before.before.before.before.requires
+plan-of-requires c κs = few_ready _ _ _ _ _ _ _ _ _ _ _ c.before.before.before.before.requires
 
 number-requires : tie.Need-number-requires
 number-requires c κs =
@@ -23,8 +23,8 @@ write-requires c κs =
     let start = plans.before.before.before.before.before in
     writable _ _ _ _ _ _ _ _ _ _ _ start.requires _ _ _ _ _ _ _ _ _ plans.plan-of.ensures numbers.number.ensures
 
-una-fits : (c : tie.After-slice-known2) → c.before.before.before.before.args.flight.una < 2 ^ 32
-una-fits c = search rules
+una_fits : (c : tie.After-slice-known2) → c.before.before.before.before.args.flight.una < 2 ^ 32
+una_fits c = search rules
 
 after-losses-requires : tie.Need-after-losses-requires
 after-losses-requires c κs =
@@ -32,7 +32,7 @@ after-losses-requires c κs =
     let numbers = writes.before.before.before.before.before.before in
     let window = numbers.before.before.before.before.before in
     let start = window.before.before.before.before.before.before in
-    countable _ _ _ _ _ _ _ _ _ _ _ start.requires _ _ _ _ _ _ window.window-of.ensures (una-fits window.before.before)
+    countable _ _ _ _ _ _ _ _ _ _ _ start.requires _ _ _ _ _ _ window.window-of.ensures (una_fits window.before.before)
     numbers.number.ensures _ _
 
 returns : tie.Need-returns
@@ -50,11 +50,11 @@ returns c =
           writes.write.ensures whole start.requires.counts
           _ _ _ c.before.before.before.after-losses.ensures c.before.cleared.ensures c.before.before.moved.ensures
           _ c.changed.ensures,
-      writes.write.ensures.sent.whole-records,
+      writes.write.ensures.sent.whole_records,
     )
 
-pub flush-now-spec : {M : Type 1} → statement M
-flush-now-spec =
+pub flush_now_spec : {M : Type 1} → statement M
+flush_now_spec =
     tie.close
     (tie.spec
     plan-of-requires

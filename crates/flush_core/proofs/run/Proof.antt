@@ -2,7 +2,7 @@
 -- Assumes nothing.
 use borrow.Author.Rules.{rules}
 use Rattle.control.specs.Views.{arrays}
-use Rattle.record_words.specs.RecordWords.{recordsIn}
+use Rattle.record_words.specs.RecordWords.{records_in}
 use Rattle.flush_core.proofs.Paces.{flushed, waited}
 use Rattle.flush_core.proofs.run.Statement.{statement}
 use Rattle.flush_core.proofs.run.Tie as tie
@@ -20,7 +20,7 @@ returns c =
       λ ready waiting numbers whole.
           flushed a.settings a.flight a.arrival a.clock
           (arrays a.queued.now a.outstanding.now a.transmissions.now ready waiting numbers)
-          (recordsIn a.records.now) a.acks.now a.t a.pool.now a.output.now a.lengths.now
+          (records_in a.records.now) a.acks.now a.t a.pool.now a.output.now a.lengths.now
           _ _ _ _ _ runs.flush-now.result a.paced steps.step_of_lem.ensures branch.if1.true
           (runs.flush-now.ensures.0 ready waiting numbers whole),
       runs.flush-now.ensures.1,
@@ -35,10 +35,10 @@ returns-2 c =
       λ ready waiting numbers whole.
           waited a.settings a.flight a.arrival a.clock
           (arrays a.queued.now a.outstanding.now a.transmissions.now ready waiting numbers)
-          (recordsIn a.records.now) a.acks.now a.t a.pool.now a.output.now a.lengths.now
+          (records_in a.records.now) a.acks.now a.t a.pool.now a.output.now a.lengths.now
           _ a.paced steps.step_of_lem.ensures branch.if1.false start.requires.counts
           _ c.before.current.ensures _ c.unflushed.ensures _,
-      start.requires.records-whole,
+      start.requires.records_whole,
     )
 
 pub run_spec : {M : Type 1} → statement M

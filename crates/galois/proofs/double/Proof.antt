@@ -5,7 +5,7 @@ use Prim.Native.Nat.{ℕ, ◌*◌, ◌-◌}
 use native.Mathlib.Omega.{arith}
 use borrow.Author.Rules.{rules}
 use Rattle.galois.specs.Field.{plus}
-use Rattle.galois.specs.FieldLaws.{double-small, double-large}
+use Rattle.galois.specs.FieldLaws.{double_small, double_large}
 use Rattle.galois.proofs.double.Statement.{statement}
 use Rattle.galois.proofs.double.Tie as tie
 
@@ -14,14 +14,14 @@ twice : (a : ℕ) → (a - 128) * 2 ≡ 2 * a - 256
 twice a = omega arith
 
 returns : tie.Need-returns
-returns c = omega (arith, double-small c.before.args.a (search rules))
+returns c = omega (arith, double_small c.before.args.a (search rules))
 
 returns-2 : tie.Need-returns-2
 returns-2 c = c.add.ensures ∙ ap (λ (x : ℕ). plus x 29) (twice c.before.before.args.a) ∙ sym
-    (double-large c.before.before.args.a (search rules) (search rules))
+    (double_large c.before.before.args.a (search rules) (search rules))
 
-pub double-spec : {M : Type 1} → statement M
-double-spec =
+pub double_spec : {M : Type 1} → statement M
+double_spec =
     tie.close
     (tie.spec
     (λ c. search rules)

@@ -174,15 +174,15 @@ use denote.Signature.Array.{array_of}
 use denote.Triple.Walked.{stay_dropped, Goes-dropped, stay_ref, Goes-ref}
 use Rattle.timing.specs.declared.Record.{Record}
 use Rattle.timing.proofs.Record.TheLaws as T'
-use Rattle.protocol.specs.Protocol.{sendSlots}
-use Rattle.records.specs.Tables.{blank, slotsIn, gathered, padded}
-use Rattle.record_words.specs.RecordWords.{recordsIn}
-use Rattle.record_words.specs.RecordLaws.{records-none}
+use Rattle.protocol.specs.Protocol.{send_slots}
+use Rattle.records.specs.Tables.{blank, slots_in, gathered, padded}
+use Rattle.record_words.specs.RecordWords.{records_in}
+use Rattle.record_words.specs.RecordLaws.{records_none}
 use Rattle.records.proofs.Rows.{R, typed, makes, ref}
-use Rattle.records.proofs.Frame.{envOf}
-use Rattle.records.proofs.Turns.{slots-counted, slot-listed, gathers-more, gathers-all}
-use Rattle.records.proofs.Call.{calls-fn, plainly, lent-first}
-use Rattle.lending.proofs.Fields.{ref-at, lend-mut, back-mut}
+use Rattle.records.proofs.Frame.{env_of}
+use Rattle.records.proofs.Turns.{slots_counted, slot_listed, gathers_more, gathers_all}
+use Rattle.records.proofs.Call.{calls_fn, plainly, lent_first}
+use Rattle.lending.proofs.Fields.{ref_at, lend_mut, back_mut}
 use Rattle.gathering.specs.Reach.{reach}
 use Rattle.gathering.proofs.Listed.{reached}
 use Rattle.gathering.specs.contracts.within as count
@@ -236,7 +236,7 @@ module _ {M : Type 1} {𝓤 : Ura M} (𝓛 : Logic 𝓤) (mem : Memory → SProp
       (ws : List ℕ) (listed : length ws ≡ 32) (lent : ℕ) (nv : Val) (gv : Is usize lent (nv ∷ [])) (b' o' : ℕ) (γ' : GName) (ns : List ℕ)
       (empty : ns ≡ replicate 128 0) where
     abbrev x : MutBor (List Record) × (MutBor (List ℕ) × (ℕ × (MutBor (List ℕ) × Unit {0})))
-    x = (ref b o γ ys, (ref-at b'' o'' γ'' ws, (lent, (ref-at b' o' γ' ns, tt))))
+    x = (ref b o γ ys, (ref_at b'' o'' γ'' ws, (lent, (ref_at b' o' γ' ns, tt))))
 
     abbrev s : Val
     s = slice_val (b, o) (length ys)
@@ -245,7 +245,7 @@ module _ {M : Type 1} {𝓤 : Ura M} (𝓛 : Logic 𝓤) (mem : Memory → SProp
     at = (s ∷ [], (vptr b'' o'' ∷ [], (nv ∷ [], (vptr b' o' ∷ [], tt))))
 
     abbrev slots : List ℕ
-    slots = slotsIn ws lent
+    slots = slots_in ws lent
 
     -- what the table's reference owns
     abbrev Own : Fml
@@ -253,11 +253,11 @@ module _ {M : Type 1} {𝓤 : Ura M} (𝓛 : Logic 𝓤) (mem : Memory → SProp
 
     -- what the reference to the words owns
     abbrev Words : Fml
-    Words = (ShrRef (named 0) κ'' Ws).own_val (ref-at b'' o'' γ'' ws) (vptr b'' o'' ∷ [])
+    Words = (ShrRef (named 0) κ'' Ws).own_val (ref_at b'' o'' γ'' ws) (vptr b'' o'' ∷ [])
 
     -- what the reference to the array owns at the list xs, at a lifetime and a name
     abbrev Lent : Lft → GName → List ℕ → Fml
-    Lent α δ xs = (MutRef (named 0) α Ns).own_val (ref-at b' o' δ xs) (vptr b' o' ∷ [])
+    Lent α δ xs = (MutRef (named 0) α Ns).own_val (ref_at b' o' δ xs) (vptr b' o' ∷ [])
 
     -- what stands beside the array while its borrow is open
     abbrev Opened : Fml
@@ -266,7 +266,7 @@ module _ {M : Type 1} {𝓤 : Ura M} (𝓛 : Logic 𝓤) (mem : Memory → SProp
     abbrev Post : Val → SProp 𝓤
     Post = (walk_of 𝓛 f.ended stayed (f.clauses 𝓛 mem run)).post (((κ, (κ'', (κ', tt))), (q, (q'', (q', tt))), tt, x, at), tt)
 
-    exits : (xs : List ℕ) → length xs ≡ 128 → recordsIn xs ≡ padded (gathered (take sendSlots ys) slots)
+    exits : (xs : List ℕ) → length xs ≡ 128 → records_in xs ≡ padded (gathered (take send_slots ys) slots)
         → ent 𝓤 (⋆ 𝓛 (‵ (Lent κ' γ' xs) ∷ ‵ (flft κ' q') ∷ ‵ (flft κ q) ∷ ‵ (flft κ'' q'') ∷ [])) (Post vunit)
     exits xs e-len e =
         qed 𝓛 (‵ (Lent κ' γ' xs) ∷ ‵ (flft κ' q') ∷ ‵ (flft κ q) ∷ ‵ (flft κ'' q'') ∷ []) ∵
@@ -278,49 +278,49 @@ module _ {M : Type 1} {𝓤 : Ura M} (𝓛 : Logic 𝓤) (mem : Memory → SProp
 
     -- what `word_at` is called at, and that what it asks is had
     abbrev to_word : ℕ → Val → (triple_of 𝓛 word_at.signature (word_at.spec 𝓛 mem run)).Ghost
-    to_word i u = (((κ'', tt), (q'', tt), tt, (ref-at b'' o'' γ'' ws, (i, tt)), (vptr b'' o'' ∷ [], (u ∷ [], tt))), tt)
+    to_word i u = (((κ'', tt), (q'', tt), tt, (ref_at b'' o'' γ'' ws, (i, tt)), (vptr b'' o'' ∷ [], (u ∷ [], tt))), tt)
 
-    asks-word : (i : ℕ) (u : Val) → Is usize i (u ∷ []) → i < 32
+    asks_word : (i : ℕ) (u : Val) → Is usize i (u ∷ []) → i < 32
         → ent 𝓤 (⋆ 𝓛 (‵ (flft κ'' q'') ∷ ‵ Words ∷ []))
         ((triple_of 𝓛 word_at.signature (word_at.spec 𝓛 mem run)).pre (to_word i u))
-    asks-word i u is small =
+    asks_word i u is small =
         qed 𝓛 (‵ (flft κ'' q'') ∷ ‵ Words ∷ []) ∵ says ! (listed, small) $ nothing ! $ move ! (1 ∷ 0 ∷ []) $ join ! $ nothing ! $
         owned ! usize (Is usize) (uint_Makes 𝓛 w64) i _ is $ fjoin ! $ move ! (2 ∷ 0 ∷ []) $ fjoin ! $ move ! (1 ∷ 0 ∷ []) $ done !
 
     -- what `put` is called at, with the array lent again for ν under δ, and that what it asks is had
-    abbrev to-put : ℕ → GName → List ℕ → ℕ → Val → Record → Val
+    abbrev to_put : ℕ → GName → List ℕ → ℕ → Val → Record → Val
         → (triple_of 𝓛 record-put.signature (record-put.spec 𝓛 mem run)).Ghost
-    to-put ν δ xs i u r v = (
+    to_put ν δ xs i u r v = (
       (
         (ν ∷ [], tt),
         (full_share, tt),
         tt,
-        (ref-at b' o' δ xs, (i, (r, tt))),
+        (ref_at b' o' δ xs, (i, (r, tt))),
         (vptr b' o' ∷ [], (u ∷ [], (v ∷ [], tt))),
       ),
       tt,
     )
 
-    asks-put : (ν : ℕ) (δ : GName) (xs : List ℕ) (i : ℕ) (u : Val) → Is usize i (u ∷ []) → (r : Record) (v : Val) → Is R r (v ∷ [])
+    asks_put : (ν : ℕ) (δ : GName) (xs : List ℕ) (i : ℕ) (u : Val) → Is usize i (u ∷ []) → (r : Record) (v : Val) → Is R r (v ∷ [])
         → (length xs ≡ 128) × (i < 32)
         → ent 𝓤 (⋆ 𝓛 (‵ (flft (ν ∷ []) full_share) ∷ ‵ (Lent (ν ∷ []) δ xs) ∷ []))
-        ((triple_of 𝓛 record-put.signature (record-put.spec 𝓛 mem run)).pre (to-put ν δ xs i u r v))
-    asks-put ν δ xs i u is-i r v is-r req =
+        ((triple_of 𝓛 record-put.signature (record-put.spec 𝓛 mem run)).pre (to_put ν δ xs i u r v))
+    asks_put ν δ xs i u is_i r v is_r req =
         qed 𝓛 (‵ (flft (ν ∷ []) full_share) ∷ ‵ (Lent (ν ∷ []) δ xs) ∷ []) ∵ says ! req $ nothing ! $ move ! (1 ∷ 0 ∷ []) $ join ! $
-        nothing ! $ owned ! R (Is R) (makes 𝓛) r _ is-r $ fjoin ! $ owned ! usize (Is usize) (uint_Makes 𝓛 w64) i _ is-i $
+        nothing ! $ owned ! R (Is R) (makes 𝓛) r _ is_r $ fjoin ! $ owned ! usize (Is usize) (uint_Makes 𝓛 w64) i _ is_i $
         fjoin ! $ move ! (2 ∷ 0 ∷ []) $ fjoin ! $ move ! (1 ∷ 0 ∷ []) $ done !
 
     -- n records are gathered
     module _ (n : ℕ) (gn : n < 2 ^ 64) (counted : n ≡ length slots) (small : n ≤ 32) where
       -- where the loop stands: the records of i slots are gathered, in the array xs
       abbrev At : Type 0
-      At = (i : ℕ) × (xs : List ℕ) × (i ≤ n) × (length xs ≡ 128) × (recordsIn xs ≡ padded (gathered (take sendSlots ys) (take i slots)))
+      At = (i : ℕ) × (xs : List ℕ) × (i ≤ n) × (length xs ≡ 128) × (records_in xs ≡ padded (gathered (take send_slots ys) (take i slots)))
 
       abbrev Nearer : At → At → Type 0
       Nearer u t = n - u.0 < n - t.0
 
-      Nearer-wf : WellFounded Nearer
-      Nearer-wf = InvImage.wf (λ (t : At). n - t.0) lt-wf_rel.wf
+      Nearer_wf : WellFounded Nearer
+      Nearer_wf = InvImage.wf (λ (t : At). n - t.0) lt-wf_rel.wf
 
       module _ (𝓣 : Tables 𝓤 H) (known : Known 𝓣.C) (l₀ l₁ l₂ l₃ l₄ l₅ l₆ l₇ l₈ l₉ l₁₀ l₁₁ l₁₂ : ℕ) where
         abbrev C : Calls 𝓤 H
@@ -335,28 +335,28 @@ module _ {M : Type 1} {𝓤 : Ura M} (𝓛 : Logic 𝓤) (mem : Memory → SProp
         abbrev slice : Ty
         slice = slice_ty (ty_ref (named 0) imm (pointee R.written))
 
-        abbrev words-ty : Ty
-        words-ty = ty_ref (named 1) imm (ty_array (ty_int w32) 32)
+        abbrev words_ty : Ty
+        words_ty = ty_ref (named 1) imm (ty_array (ty_int w32) 32)
 
-        abbrev ref-ty : Ty
-        ref-ty = ty_ref (named 2) mut (ty_array (ty_int w32) 128)
+        abbrev ref_ty : Ty
+        ref_ty = ty_ref (named 2) mut (ty_array (ty_int w32) 128)
 
-        abbrev lent-ty : Ty
-        lent-ty = ty_ref erased mut (ty_array (ty_int w32) 128)
+        abbrev lent_ty : Ty
+        lent_ty = ty_ref erased mut (ty_array (ty_int w32) 128)
 
         abbrev En : Env 𝓤 H
-        En = envOf (code.function).locals (l₀ ∷ l₁ ∷ l₂ ∷ l₃ ∷ l₄ ∷ l₅ ∷ l₆ ∷ l₇ ∷ l₈ ∷ l₉ ∷ l₁₀ ∷ l₁₁
+        En = env_of (code.function).locals (l₀ ∷ l₁ ∷ l₂ ∷ l₃ ∷ l₄ ∷ l₅ ∷ l₆ ∷ l₇ ∷ l₈ ∷ l₉ ∷ l₁₀ ∷ l₁₁
             ∷ l₁₂ ∷ [])
 
         abbrev Inv : At → List (Item 𝓤)
         Inv t = ‵ Own ∷ ‵ (flft κ q) ∷ ‵ (part_at Ns full_share t.1 b' o') ∷ ‵ Opened ∷ ‵ Words ∷ ‵ (flft κ'' q'')
-            ∷ ‵ (froom lent-ty l₁₂ 0) ∷ ‵ (fdies lent-ty l₁₂) ∷ ‵ (froom ty_unit l₁₁ 0) ∷ ‵ (fdies ty_unit l₁₁)
+            ∷ ‵ (froom lent_ty l₁₂ 0) ∷ ‵ (fdies lent_ty l₁₂) ∷ ‵ (froom ty_unit l₁₁ 0) ∷ ‵ (fdies ty_unit l₁₁)
             ∷ ‵ (froom ty_bool l₁₀ 0) ∷ ‵ (fdies ty_bool l₁₀) ∷ ‵ (froom T'.mir l₉ 0) ∷ ‵ (fdies T'.mir l₉)
             ∷ ‵ (froom word l₈ 0) ∷ ‵ (fdies word l₈) ∷ ‵ (froom (ty_int w32) l₇ 0) ∷ ‵ (fdies (ty_int w32) l₇)
             ∷ ‵ (fat full_share word l₆ 0 (vint w64 t.0)) ∷ ‵ (fdies word l₆) ∷ ‵ (fat full_share word l₅ 0 (vint w64 n))
-            ∷ ‵ (fdies word l₅) ∷ ‵ (fat full_share ref-ty l₄ 0 (vptr b' o')) ∷ ‵ (fdies ref-ty l₄)
-            ∷ ‵ (fat full_share word l₃ 0 nv) ∷ ‵ (fdies word l₃) ∷ ‵ (fat full_share words-ty l₂ 0 (vptr b'' o''))
-            ∷ ‵ (fdies words-ty l₂) ∷ ‵ (fat full_share slice l₁ 0 s) ∷ ‵ (fdies slice l₁) ∷ ‵ (froom ty_unit l₀ 0)
+            ∷ ‵ (fdies word l₅) ∷ ‵ (fat full_share ref_ty l₄ 0 (vptr b' o')) ∷ ‵ (fdies ref_ty l₄)
+            ∷ ‵ (fat full_share word l₃ 0 nv) ∷ ‵ (fdies word l₃) ∷ ‵ (fat full_share words_ty l₂ 0 (vptr b'' o''))
+            ∷ ‵ (fdies words_ty l₂) ∷ ‵ (fat full_share slice l₁ 0 s) ∷ ‵ (fdies slice l₁) ∷ ‵ (froom ty_unit l₀ 0)
             ∷ ‵ (fdies ty_unit l₀) ∷ []
 
         abbrev Turned : At → Out → SProp 𝓤
@@ -371,17 +371,17 @@ module _ {M : Type 1} {𝓤 : Ura M} (𝓛 : Logic 𝓤) (mem : Memory → SProp
             rewrite ! 10 (λ (u : Bool). ‵ (fat full_share ty_bool l₁₀ 0 (vbool u))) z refl $
             stays ! (load ! (from ! (stop !)) (look ! 10 refl)) $
             -- the word, and where its record is read
-            move ! (4 ∷ []) $ use1 𝓛 (‵ Words ⊛ ‵ Words) ((shr_copy 𝓛 (named 0) κ'' Ws).twice (ref-at b'' o'' γ'' ws) (vptr b'' o''
+            move ! (4 ∷ []) $ use1 𝓛 (‵ Words ⊛ ‵ Words) ((shr_copy 𝓛 (named 0) κ'' Ws).twice (ref_at b'' o'' γ'' ws) (vptr b'' o''
             ∷ [])) $
             split ! $ move ! (6 ∷ 0 ∷ []) $ join ! $
-            calls-fn ! (fm_of 𝓤 H 𝓛.laws 𝓣) word_at.ended (word_at.clauses 𝓛 mem run) known.4 (to_word t.0 (vint w64 t.0))
-            (λ w _. w ≡ get_or ws t.0 0) (‵ (flft κ'' q'') ⊛ ‵ Words) (asks-word t.0 (vint w64 t.0) is-i small-i) (λ w _. id⊢ 𝓤 _)
+            calls_fn ! (fm_of 𝓤 H 𝓛.laws 𝓣) word_at.ended (word_at.clauses 𝓛 mem run) known.4 (to_word t.0 (vint w64 t.0))
+            (λ w _. w ≡ get_or ws t.0 0) (‵ (flft κ'' q'') ⊛ ‵ Words) (asks_word t.0 (vint w64 t.0) is_i small_i) (λ w _. id⊢ 𝓤 _)
             (and_then ! (load ! (from ! (stop !)) (look ! 26 refl)) (and_then ! (load ! (from ! (stop !)) (look ! 18 refl)) (no_more !)))
             (λ w vw _ e-w is-w.
             use1 𝓛 (‵ (flft κ'' q'') ⊛ ‵ ftrue) (id⊢ 𝓤 _) $ split ! $ move ! (1 ∷ 2 ∷ []) $ drop ! $ drop ! $
             move ! (2 ∷ 3 ∷ 4 ∷ 5 ∷ 1 ∷ 0 ∷ []) $
             land ! (from ! (stop !)) (init ! 16 refl ((uint_Lawful 𝓛 w32).typed w _ is-w).0) $
-            nothing ! $ calls-fn ! (fm_of 𝓤 H 𝓛.laws 𝓣) reach_of.ended (reach_of.clauses 𝓛 mem run) known.1
+            nothing ! $ calls_fn ! (fm_of 𝓤 H 𝓛.laws 𝓣) reach_of.ended (reach_of.clauses 𝓛 mem run) known.1
             ((tt, tt, tt, (w, tt), (vw ∷ [], tt)), tt) (λ k _. k ≡ reach w)
             (‵ ftrue) (plainly 𝓛 (u32 ∷ []) (uint_Makes 𝓛 w32, tt) (w, tt) (vw ∷ [], tt) (is-w, tt)) (λ k _. id⊢ 𝓤 _)
             (and_then ! (load ! (from ! (stop !)) (look ! 17 refl)) (no_more !))
@@ -389,29 +389,29 @@ module _ {M : Type 1} {𝓤 : Ura M} (𝓛 : Logic 𝓤) (mem : Memory → SProp
             -- the record
             use1 𝓛 (‵ Own ⊛ ‵ Own) ((shr_slice_copy 𝓛 (named 0) κ R).twice (ref b o γ ys) (s ∷ [])) $ split ! $ move ! (2 ∷ 0 ∷ []) $
             join ! $
-            calls-fn ! (fm_of 𝓤 H 𝓛.laws 𝓣) read.ended (read.clauses 𝓛 mem run) known.2
+            calls_fn ! (fm_of 𝓤 H 𝓛.laws 𝓣) read.ended (read.clauses 𝓛 mem run) known.2
             (((κ, tt), (q, tt), tt, (ref b o γ ys, (k, tt)), (s ∷ [], (wk ∷ [], tt))), tt) (λ r _. r ≡ get_or ys k blank)
-            (‵ (flft κ q) ⊛ ‵ Own) (lent-first 𝓛 (usize ∷ []) (uint_Makes 𝓛 w64, tt) (k, tt) (wk ∷ [], tt) (is-k, tt)
+            (‵ (flft κ q) ⊛ ‵ Own) (lent_first 𝓛 (usize ∷ []) (uint_Makes 𝓛 w64, tt) (k, tt) (wk ∷ [], tt) (is-k, tt)
             (ShrSlice (named 0) κ R) (ref b o γ ys) (s ∷ []) κ q) (λ r _. id⊢ 𝓤 _)
             (and_then ! (load ! (from ! (stop !)) (look ! 28 refl)) (and_then ! (load ! (from ! (stop !)) (look ! 14 refl)) (no_more !)))
-            (λ r v _ e-r is-r.
+            (λ r v _ e_r is_r.
             use1 𝓛 (‵ (flft κ q) ⊛ ‵ ftrue) (id⊢ 𝓤 _) $ split ! $ move ! (1 ∷ 2 ∷ []) $ drop ! $ drop ! $ move ! (1 ∷ 0 ∷ []) $
-            land ! (from ! (stop !)) (init ! 12 refl (typed 𝓛 r is-r)) $
+            land ! (from ! (stop !)) (init ! 12 refl (typed 𝓛 r is_r)) $
             -- the array is lent again for a lifetime ν of the call
             assigns ! (addr ! (from ! (hop ! (look ! 22 refl) (stop !)))) (from ! (stop !)) (init ! 6 refl (tt, tt)) $
-            move ! (2 ∷ []) $ lend-mut ! tt Ns t.1 b' o' (λ ν δ. join ! $
-            calls-fn ! (fm_of 𝓤 H 𝓛.laws 𝓣) record-put.ended (record-put.clauses 𝓛 mem run) known.3
-            (to-put ν δ t.1 t.0 (vint w64 t.0) r v)
-            (λ _ xs. (length xs.0 ≡ 128) × (recordsIn xs.0 ≡ set (recordsIn t.1) t.0 r))
+            move ! (2 ∷ []) $ lend_mut ! tt Ns t.1 b' o' (λ ν δ. join ! $
+            calls_fn ! (fm_of 𝓤 H 𝓛.laws 𝓣) record-put.ended (record-put.clauses 𝓛 mem run) known.3
+            (to_put ν δ t.1 t.0 (vint w64 t.0) r v)
+            (λ _ xs. (length xs.0 ≡ 128) × (records_in xs.0 ≡ set (records_in t.1) t.0 r))
             (‵ (flft (ν ∷ []) full_share) ⊛ ‵ (Lent (ν ∷ []) δ t.1))
-            (asks-put ν δ t.1 t.0 (vint w64 t.0) is-i r v is-r (t.3, small-i)) (λ _ xs. id⊢ 𝓤 _)
+            (asks_put ν δ t.1 t.0 (vint w64 t.0) is_i r v is_r (t.3, small_i)) (λ _ xs. id⊢ 𝓤 _)
             (and_then ! (load ! (from ! (stop !)) (look ! 7 refl))
             (and_then ! (load ! (from ! (stop !)) (look ! 19 refl)) (and_then ! (load ! (from ! (stop !)) (look ! 13 refl)) (no_more !))))
             (λ u w xs e-x is-u.
             land ! (from ! (stop !)) (init ! 10 refl ((Nothing-Lawful 𝓛).typed u _ is-u).0) $
             -- it comes back at its last list
             use1 𝓛 (‵ (flft (ν ∷ []) full_share) ⊛ ‵ ftrue) (id⊢ 𝓤 _) $ split ! $ move ! (2 ∷ []) $ fsplit ! $ move ! (2 ∷ 4 ∷ 0 ∷ []) $
-            back-mut ! tt Ns b' o' xs.0 $ move ! (1 ∷ 2 ∷ []) $ drop ! $ drop ! $ move ! (1 ∷ 2 ∷ 0 ∷ []) $
+            back_mut ! tt Ns b' o' xs.0 $ move ! (1 ∷ 2 ∷ []) $ drop ! $ drop ! $ move ! (1 ∷ 2 ∷ 0 ∷ []) $
             assigns_last ! (bin ! (load ! (from ! (stop !)) (look ! 18 refl)) (lit ! tt) (record { fits = next })) (from ! (stop !))
             (store ! 18 refl (tt, record { fits = next })) $
             forget ! 6 refl $ forget ! 8 refl $ forget ! 10 refl $ forget ! 12 refl $ forget ! 14 refl $ forget ! 16 refl $
@@ -420,9 +420,9 @@ module _ {M : Type 1} {𝓤 : Ura M} (𝓛 : Logic 𝓤) (mem : Memory → SProp
               xs.0,
               add-one-le less,
               e-x.0,
-              e-x.1 ∙ gathers-more (take sendSlots ys) (recordsIn t.1) slots t.0 (get_or ws t.0 0 % 256) r within small-i t.4
-                  (slot-listed ws lent t.0 (get_or ws t.0 0 % 256) refl within) (reached ys (get_or ws t.0 0) k r room.0
-                  (e-k ∙ ap reach e-w) e-r),
+              e-x.1 ∙ gathers_more (take send_slots ys) (records_in t.1) slots t.0 (get_or ws t.0 0 % 256) r within small_i t.4
+                  (slot_listed ws lent t.0 (get_or ws t.0 0 % 256) refl within) (reached ys (get_or ws t.0 0) k r room.0
+                  (e-k ∙ ap reach e-w) e_r),
             ) (add-one-dec n t.0 less))))))
           where
             less : t.0 < n
@@ -431,11 +431,11 @@ module _ {M : Type 1} {𝓤 : Ura M} (𝓛 : Logic 𝓤) (mem : Memory → SProp
             within : t.0 < length slots
             within = rw (← counted) less
 
-            small-i : t.0 < 32
-            small-i = lt_of_lt_of_le less small
+            small_i : t.0 < 32
+            small_i = lt_of_lt_of_le less small
 
-            is-i : Is usize t.0 (vint w64 t.0 ∷ [])
-            is-i = (refl, lt_of_lt_of_le less (le_of_lt gn))
+            is_i : Is usize t.0 (vint w64 t.0 ∷ [])
+            is_i = (refl, lt_of_lt_of_le less (le_of_lt gn))
 
             next : t.0 + 1 < 2 ^ 64
             next = lt_of_le_of_lt (add-one-le less) gn
@@ -455,7 +455,7 @@ module _ {M : Type 1} {𝓤 : Ura M} (𝓛 : Logic 𝓤) (mem : Memory → SProp
             move ! (18 ∷ 19 ∷ []) $ free1 ! $ move ! (16 ∷ 17 ∷ []) $ free1 ! $ move ! (14 ∷ 15 ∷ []) $ free1 ! $
             move ! (12 ∷ 13 ∷ []) $ free1 ! $ move ! (10 ∷ 11 ∷ []) $ free1 ! $ move ! (8 ∷ 9 ∷ []) $ free1 ! $
             move ! (6 ∷ 7 ∷ []) $ free1 ! $ free0 ! $ keep ! (0 ∷ 1 ∷ 3 ∷ 5 ∷ []) $
-            by ! (exits t.1 t.3 (gathers-all (take sendSlots ys) (recordsIn t.1) slots t.0 past t.4))
+            by ! (exits t.1 t.3 (gathers_all (take send_slots ys) (records_in t.1) slots t.0 past t.4))
           where
             past : length slots ≤ t.0
             past = rw (← counted) (nltb→le t.0 n (not_T (ltb t.0 n) (λ h. subst T z h)))
@@ -465,12 +465,12 @@ module _ {M : Type 1} {𝓤 : Ura M} (𝓛 : Logic 𝓤) (mem : Memory → SProp
 
         -- where the loop begins: nothing is gathered yet
         abbrev begun : At
-        begun = (0, ns, zero-le, rw empty refl, ap recordsIn empty ∙ records-none)
+        begun = (0, ns, zero-le, rw empty refl, ap records_in empty ∙ records_none)
 
         looped : ent 𝓤 (⋆ 𝓛 (Inv begun)) (Wp 𝓤 H C Λ En body.t-3 (at_return 𝓤 H En Post))
         looped =
             qed 𝓛 (Inv begun) ∵ exec ! C Λ En body.t-3 (at_ret En Post) $ first ! $ blocks ! $
-            loops ! 𝓣 Nearer Nearer-wf Inv turns begun
+            loops ! 𝓣 Nearer Nearer_wf Inv turns begun
 
     walk : (𝓣 : Tables 𝓤 H) → Known 𝓣.C
         → ent 𝓤 (on_entry 𝓛 f.signature (κ, (κ'', (κ', tt))) (q, (q'', (q', tt))) x at)
@@ -483,12 +483,12 @@ module _ {M : Type 1} {𝓤 : Ura M} (𝓛 : Logic 𝓤) (mem : Memory → SProp
         alloc1 ! (λ l₈. alloc1 ! (λ l₉. alloc1 ! (λ l₁₀. alloc1 ! (λ l₁₁. alloc1 ! (λ l₁₂. alloc0 ! $ params1 ! $
         pass1 ! (init ! 22 refl (tt, (tt, (record { fits = room.0 }, tt)))) $ pass1 ! (init ! 20 refl (tt, tt)) $
         pass1 ! (init ! 18 refl ((uint_Lawful 𝓛 w64).typed lent _ gv).0) $ pass1 ! (init ! 16 refl (tt, tt)) $ pass0 ! $
-        nothing ! $ calls-fn ! (fm_of 𝓤 H 𝓛.laws 𝓣) count.ended (count.clauses 𝓛 mem run) known.0
+        nothing ! $ calls_fn ! (fm_of 𝓤 H 𝓛.laws 𝓣) count.ended (count.clauses 𝓛 mem run) known.0
         ((tt, tt, tt, (lent, tt), (nv ∷ [], tt)), tt) (λ n _. (n ≡ min lent 32) × (n ≤ 32))
         (‵ ftrue) (plainly 𝓛 (usize ∷ []) (uint_Makes 𝓛 w64, tt) (lent, tt) (nv ∷ [], tt) (gv, tt)) (λ n _. id⊢ 𝓤 _)
-        (and_then ! (load ! (from ! (stop !)) (look ! 19 refl)) (no_more !)) (λ n v _ e-n is-n. drop ! $ drop ! $
-        land ! (from ! (stop !)) (init ! 14 refl ((uint_Lawful 𝓛 w64).typed n _ is-n).0) $
-        rewrite ! 14 (λ (u : Val). ‵ (fat full_share (ty_int w64) l₅ 0 u)) (ap only is-n.0) refl $
+        (and_then ! (load ! (from ! (stop !)) (look ! 19 refl)) (no_more !)) (λ n v _ e_n is_n. drop ! $ drop ! $
+        land ! (from ! (stop !)) (init ! 14 refl ((uint_Lawful 𝓛 w64).typed n _ is_n).0) $
+        rewrite ! 14 (λ (u : Val). ‵ (fat full_share (ty_int w64) l₅ 0 u)) (ap only is_n.0) refl $
         assigns ! (of_opd ! (lit ! tt)) (from ! (stop !)) (init ! 12 refl (tt, record { fits = lit< tt })) $
         move ! (27 ∷ []) $ fsplit ! $ move ! (1 ∷ []) $ fsplit ! $ move ! (1 ∷ []) $ fsplit ! $ move ! (1 ∷ []) $ fsplit ! $
         move ! (31 ∷ []) $ split ! $ move ! (1 ∷ []) $ split ! $ move ! (1 ∷ []) $ split ! $
@@ -498,7 +498,7 @@ module _ {M : Type 1} {𝓤 : Ura M} (𝓛 : Logic 𝓤) (mem : Memory → SProp
         keep ! (8 ∷ 4 ∷ 1 ∷ 0 ∷ 7 ∷ 3 ∷ 9 ∷ 10 ∷ 11 ∷ 12 ∷ 13 ∷ 14 ∷ 15 ∷ 16 ∷ 17 ∷ 18 ∷ 19 ∷ 20 ∷ 21 ∷ 22 ∷ 23 ∷ 24
         ∷ 25
         ∷ 26 ∷ 27 ∷ 28 ∷ 29 ∷ 30 ∷ 31 ∷ 32 ∷ 33 ∷ 34 ∷ []) $
-        by ! (looped n is-n.1 (slots-counted ws lent n listed e-n.0) e-n.1 𝓣 known
+        by ! (looped n is_n.1 (slots_counted ws lent n listed e_n.0) e_n.1 𝓣 known
         l₀ l₁ l₂ l₃ l₄ l₅ l₆ l₇ l₈ l₉ l₁₀ l₁₁ l₁₂)))))))))))))))
 
   f_meets : (𝓣 : Tables 𝓤 H) → Known 𝓣.C → Meets 𝓛 f.signature (WpFn 𝓤 H 𝓣.C 𝓣.Λ code.function) (f.spec 𝓛 mem run)
@@ -528,9 +528,9 @@ module _ {M : Type 1} {𝓤 : Ura M} (𝓛 : Logic 𝓤) (mem : Memory → SProp
       a.1.1.0 (vint w64 a.1.1.0) are.1.1.0
       a.1.1.1.0.ref_ptr.0 a.1.1.1.0.ref_ptr.1 a.1.1.1.0.ghost_name a.1.1.1.0.now pre.1 𝓣 known)))
 
-pub gather-spec : {M : Type 1} → stated.statement M
+pub gather_spec : {M : Type 1} → stated.statement M
 unfolding code.routine tables_of
-gather-spec 𝓤 𝓛 𝓜 𝓡 =
+gather_spec 𝓤 𝓛 𝓜 𝓡 =
     entered 𝓤 𝓛.H (triple_of 𝓛 f.signature (f.spec 𝓛 𝓜.mem 𝓡.run))
     (tables 𝓤 𝓛.H 𝓜 𝓡 code.env).C (tables 𝓤 𝓛.H 𝓜 𝓡 code.env).Λ #f code.function (code.unfolded 𝓤 𝓛.H 𝓜 𝓡)
     (f_meets 𝓛 𝓜.mem 𝓡.run (tables_of 𝓤 𝓛.H 𝓜 (tables 𝓤 𝓛.H 𝓜 𝓡 code.env)) (

@@ -186,15 +186,15 @@ use denote.Signature.Array.{array_of}
 use denote.Triple.Walked.{stay_dropped, Goes-dropped}
 use Rattle.timing.specs.declared.Record.{Record}
 use Rattle.timing.proofs.Record.TheLaws as T'
-use Rattle.records.specs.Tables.{blank, slotsIn, scattered}
-use Rattle.record_words.specs.RecordWords.{recordsIn}
-use Rattle.record_words.specs.RecordLaws.{records-length}
+use Rattle.records.specs.Tables.{blank, slots_in, scattered}
+use Rattle.record_words.specs.RecordWords.{records_in}
+use Rattle.record_words.specs.RecordLaws.{records_length}
 use Rattle.records.proofs.Rows.{R, typed, makes, ref}
-use Rattle.records.proofs.Frame.{envOf}
-use Rattle.records.proofs.Turns.{slots-counted, slot-listed, Left, scatters-more, scatters-all}
+use Rattle.records.proofs.Frame.{env_of}
+use Rattle.records.proofs.Turns.{slots_counted, slot_listed, Left, scatters_more, scatters_all}
 use Rattle.records.proofs.Again.{LentAgain, lends_again, comes_back}
-use Rattle.records.proofs.Call.{calls-fn, plainly, lent-first}
-use Rattle.lending.proofs.Fields.{ref-at}
+use Rattle.records.proofs.Call.{calls_fn, plainly, lent_first}
+use Rattle.lending.proofs.Fields.{ref_at}
 use Rattle.gathering.specs.contracts.within as count
 use Rattle.gathering.proofs.within.Symbol as count-def
 use Rattle.gathering.proofs.within.Met as count-thm
@@ -243,7 +243,7 @@ module _ {M : Type 1} {𝓤 : Ura M} (𝓛 : Logic 𝓤) (mem : Memory → SProp
       (ws : List ℕ) (listed : length ws ≡ 32) (lent : ℕ) (nv : Val) (gv : Is usize lent (nv ∷ [])) (b' o' : ℕ) (γ' : GName) (ns : List ℕ)
       (len : length ns ≡ 128) where
     abbrev x : MutBor (List Record) × (MutBor (List ℕ) × (ℕ × (MutBor (List ℕ) × Unit {0})))
-    x = (ref b o γ ys, (ref-at b'' o'' γ'' ws, (lent, (ref-at b' o' γ' ns, tt))))
+    x = (ref b o γ ys, (ref_at b'' o'' γ'' ws, (lent, (ref_at b' o' γ' ns, tt))))
 
     abbrev s : ℕ → Val
     s m = slice_val (b, o) m
@@ -252,10 +252,10 @@ module _ {M : Type 1} {𝓤 : Ura M} (𝓛 : Logic 𝓤) (mem : Memory → SProp
     at = (s (length ys) ∷ [], (vptr b'' o'' ∷ [], (nv ∷ [], (vptr b' o' ∷ [], tt))))
 
     abbrev slots : List ℕ
-    slots = slotsIn ws lent
+    slots = slots_in ws lent
 
     abbrev records : List Record
-    records = recordsIn ns
+    records = records_in ns
 
     -- what the table's reference owns at the list zs, at a lifetime and a name
     abbrev Own : Lft → GName → List Record → ℕ → Fml
@@ -263,17 +263,17 @@ module _ {M : Type 1} {𝓤 : Ura M} (𝓛 : Logic 𝓤) (mem : Memory → SProp
 
     -- what the reference to the words owns
     abbrev Words : Fml
-    Words = (ShrRef (named 0) κ'' Ws).own_val (ref-at b'' o'' γ'' ws) (vptr b'' o'' ∷ [])
+    Words = (ShrRef (named 0) κ'' Ws).own_val (ref_at b'' o'' γ'' ws) (vptr b'' o'' ∷ [])
 
     -- what the reference to the records owns
     abbrev Lent : Fml
-    Lent = (ShrRef (named 0) κ' Ns).own_val (ref-at b' o' γ' ns) (vptr b' o' ∷ [])
+    Lent = (ShrRef (named 0) κ' Ns).own_val (ref_at b' o' γ' ns) (vptr b' o' ∷ [])
 
     abbrev Post : Val → SProp 𝓤
     Post = (walk_of 𝓛 f.ended stayed (f.clauses 𝓛 mem run)).post (((κ, (κ'', (κ', tt))), (q, (q'', (q', tt))), tt, x, at), tt)
 
-    records-counted : length records ≡ 32
-    records-counted = records-length 32 ns len
+    records_counted : length records ≡ 32
+    records_counted = records_length 32 ns len
 
     exits : (zs : List Record) → zs ≡ scattered ys slots records → length zs ≡ length ys
         → ent 𝓤 (⋆ 𝓛 (‵ (Own κ γ zs (length zs)) ∷ ‵ (flft κ q) ∷ ‵ (flft κ' q') ∷ ‵ (flft κ'' q'') ∷ [])) (Post vunit)
@@ -288,18 +288,18 @@ module _ {M : Type 1} {𝓤 : Ura M} (𝓛 : Logic 𝓤) (mem : Memory → SProp
 
     -- what `word_at` is called at, and that what it asks is had
     abbrev to_word : ℕ → Val → (triple_of 𝓛 word_at.signature (word_at.spec 𝓛 mem run)).Ghost
-    to_word i u = (((κ'', tt), (q'', tt), tt, (ref-at b'' o'' γ'' ws, (i, tt)), (vptr b'' o'' ∷ [], (u ∷ [], tt))), tt)
+    to_word i u = (((κ'', tt), (q'', tt), tt, (ref_at b'' o'' γ'' ws, (i, tt)), (vptr b'' o'' ∷ [], (u ∷ [], tt))), tt)
 
-    asks-word : (i : ℕ) (u : Val) → Is usize i (u ∷ []) → i < 32
+    asks_word : (i : ℕ) (u : Val) → Is usize i (u ∷ []) → i < 32
         → ent 𝓤 (⋆ 𝓛 (‵ (flft κ'' q'') ∷ ‵ Words ∷ []))
         ((triple_of 𝓛 word_at.signature (word_at.spec 𝓛 mem run)).pre (to_word i u))
-    asks-word i u is small =
+    asks_word i u is small =
         qed 𝓛 (‵ (flft κ'' q'') ∷ ‵ Words ∷ []) ∵ says ! (listed, small) $ nothing ! $ move ! (1 ∷ 0 ∷ []) $ join ! $ nothing ! $
         owned ! usize (Is usize) (uint_Makes 𝓛 w64) i _ is $ fjoin ! $ move ! (2 ∷ 0 ∷ []) $ fjoin ! $ move ! (1 ∷ 0 ∷ []) $ done !
 
     -- what `at` is called at, and that what it asks is had
     abbrev to_at : ℕ → Val → (triple_of 𝓛 record-at.signature (record-at.spec 𝓛 mem run)).Ghost
-    to_at i u = (((κ', tt), (q', tt), tt, (ref-at b' o' γ' ns, (i, tt)), (vptr b' o' ∷ [], (u ∷ [], tt))), tt)
+    to_at i u = (((κ', tt), (q', tt), tt, (ref_at b' o' γ' ns, (i, tt)), (vptr b' o' ∷ [], (u ∷ [], tt))), tt)
 
     asks_at : (i : ℕ) (u : Val) → Is usize i (u ∷ []) → i < 32
         → ent 𝓤 (⋆ 𝓛 (‵ (flft κ' q') ∷ ‵ Lent ∷ []))
@@ -309,9 +309,9 @@ module _ {M : Type 1} {𝓤 : Ura M} (𝓛 : Logic 𝓤) (mem : Memory → SProp
         owned ! usize (Is usize) (uint_Makes 𝓛 w64) i _ is $ fjoin ! $ move ! (2 ∷ 0 ∷ []) $ fjoin ! $ move ! (1 ∷ 0 ∷ []) $ done !
 
     -- what `replace` is called at, with the table lent again for ν under δ
-    abbrev to-replace : ℕ → GName → List Record → ℕ → Val → Record → Val
+    abbrev to_replace : ℕ → GName → List Record → ℕ → Val → Record → Val
         → (triple_of 𝓛 replace.signature (replace.spec 𝓛 mem run)).Ghost
-    to-replace ν δ zs k wk r w = (
+    to_replace ν δ zs k wk r w = (
       (
         (ν ∷ [], tt),
         (full_share, tt),
@@ -331,8 +331,8 @@ module _ {M : Type 1} {𝓤 : Ura M} (𝓛 : Logic 𝓤) (mem : Memory → SProp
       abbrev Nearer : At → At → Type 0
       Nearer u t = n - u.0 < n - t.0
 
-      Nearer-wf : WellFounded Nearer
-      Nearer-wf = InvImage.wf (λ (t : At). n - t.0) lt-wf_rel.wf
+      Nearer_wf : WellFounded Nearer
+      Nearer_wf = InvImage.wf (λ (t : At). n - t.0) lt-wf_rel.wf
 
       module _ (𝓣 : Tables 𝓤 H) (known : Known 𝓣.C) (l₀ l₁ l₂ l₃ l₄ l₅ l₆ l₇ l₈ l₉ l₁₀ l₁₁ l₁₂ l₁₃ : ℕ) where
         abbrev C : Calls 𝓤 H
@@ -347,29 +347,29 @@ module _ {M : Type 1} {𝓤 : Ura M} (𝓛 : Logic 𝓤) (mem : Memory → SProp
         abbrev slice : Ty
         slice = slice_ty (ty_ref (named 0) mut (pointee R.written))
 
-        abbrev words-ty : Ty
-        words-ty = ty_ref (named 1) imm (ty_array (ty_int w32) 32)
+        abbrev words_ty : Ty
+        words_ty = ty_ref (named 1) imm (ty_array (ty_int w32) 32)
 
-        abbrev ref-ty : Ty
-        ref-ty = ty_ref (named 2) imm (ty_array (ty_int w32) 128)
+        abbrev ref_ty : Ty
+        ref_ty = ty_ref (named 2) imm (ty_array (ty_int w32) 128)
 
-        abbrev lent-ty : Ty
-        lent-ty = ty_ref erased mut (pointee R.written)
+        abbrev lent_ty : Ty
+        lent_ty = ty_ref erased mut (pointee R.written)
 
         abbrev En : Env 𝓤 H
-        En = envOf (code.function).locals (l₀ ∷ l₁ ∷ l₂ ∷ l₃ ∷ l₄ ∷ l₅ ∷ l₆ ∷ l₇ ∷ l₈ ∷ l₉ ∷ l₁₀ ∷ l₁₁
+        En = env_of (code.function).locals (l₀ ∷ l₁ ∷ l₂ ∷ l₃ ∷ l₄ ∷ l₅ ∷ l₆ ∷ l₇ ∷ l₈ ∷ l₉ ∷ l₁₀ ∷ l₁₁
             ∷ l₁₂ ∷ l₁₃ ∷ [])
 
         abbrev Inv : At → List (Item 𝓤)
         Inv t = ‵ (Own κ γ t.1 (length t.1)) ∷ ‵ (flft κ q) ∷ ‵ Lent ∷ ‵ (flft κ' q') ∷ ‵ Words ∷ ‵ (flft κ'' q'')
-            ∷ ‵ (froom (slice_ty lent-ty) l₁₃ 0) ∷ ‵ (fdies (slice_ty lent-ty) l₁₃) ∷ ‵ (froom lent-ty l₁₂ 0)
-            ∷ ‵ (fdies lent-ty l₁₂)
+            ∷ ‵ (froom (slice_ty lent_ty) l₁₃ 0) ∷ ‵ (fdies (slice_ty lent_ty) l₁₃) ∷ ‵ (froom lent_ty l₁₂ 0)
+            ∷ ‵ (fdies lent_ty l₁₂)
             ∷ ‵ (froom ty_unit l₁₁ 0) ∷ ‵ (fdies ty_unit l₁₁) ∷ ‵ (froom ty_bool l₁₀ 0) ∷ ‵ (fdies ty_bool l₁₀)
             ∷ ‵ (froom T'.mir l₉ 0) ∷ ‵ (fdies T'.mir l₉) ∷ ‵ (froom word l₈ 0) ∷ ‵ (fdies word l₈)
             ∷ ‵ (froom (ty_int w32) l₇ 0) ∷ ‵ (fdies (ty_int w32) l₇) ∷ ‵ (fat full_share word l₆ 0 (vint w64 t.0)) ∷ ‵ (fdies word l₆)
-            ∷ ‵ (fat full_share word l₅ 0 (vint w64 n)) ∷ ‵ (fdies word l₅) ∷ ‵ (fat full_share ref-ty l₄ 0 (vptr b' o'))
-            ∷ ‵ (fdies ref-ty l₄) ∷ ‵ (fat full_share word l₃ 0 nv) ∷ ‵ (fdies word l₃)
-            ∷ ‵ (fat full_share words-ty l₂ 0 (vptr b'' o'')) ∷ ‵ (fdies words-ty l₂)
+            ∷ ‵ (fat full_share word l₅ 0 (vint w64 n)) ∷ ‵ (fdies word l₅) ∷ ‵ (fat full_share ref_ty l₄ 0 (vptr b' o'))
+            ∷ ‵ (fdies ref_ty l₄) ∷ ‵ (fat full_share word l₃ 0 nv) ∷ ‵ (fdies word l₃)
+            ∷ ‵ (fat full_share words_ty l₂ 0 (vptr b'' o'')) ∷ ‵ (fdies words_ty l₂)
             ∷ ‵ (fat full_share slice l₁ 0 (s (length t.1))) ∷ ‵ (fdies slice l₁) ∷ ‵ (froom ty_unit l₀ 0) ∷ ‵ (fdies ty_unit l₀) ∷ []
 
         abbrev Turned : At → Out → SProp 𝓤
@@ -384,33 +384,33 @@ module _ {M : Type 1} {𝓤 : Ura M} (𝓛 : Logic 𝓤) (mem : Memory → SProp
             rewrite ! 12 (λ (u : Bool). ‵ (fat full_share ty_bool l₁₀ 0 (vbool u))) z refl $
             stays ! (load ! (from ! (stop !)) (look ! 12 refl)) $
             -- the word, and its slot
-            move ! (4 ∷ []) $ use1 𝓛 (‵ Words ⊛ ‵ Words) ((shr_copy 𝓛 (named 0) κ'' Ws).twice (ref-at b'' o'' γ'' ws) (vptr b'' o''
+            move ! (4 ∷ []) $ use1 𝓛 (‵ Words ⊛ ‵ Words) ((shr_copy 𝓛 (named 0) κ'' Ws).twice (ref_at b'' o'' γ'' ws) (vptr b'' o''
             ∷ [])) $
             split ! $ move ! (6 ∷ 0 ∷ []) $ join ! $
-            calls-fn ! (fm_of 𝓤 H 𝓛.laws 𝓣) word_at.ended (word_at.clauses 𝓛 mem run) known.4 (to_word t.0 (vint w64 t.0))
-            (λ w _. w ≡ get_or ws t.0 0) (‵ (flft κ'' q'') ⊛ ‵ Words) (asks-word t.0 (vint w64 t.0) is-i small-i) (λ w _. id⊢ 𝓤 _)
+            calls_fn ! (fm_of 𝓤 H 𝓛.laws 𝓣) word_at.ended (word_at.clauses 𝓛 mem run) known.4 (to_word t.0 (vint w64 t.0))
+            (λ w _. w ≡ get_or ws t.0 0) (‵ (flft κ'' q'') ⊛ ‵ Words) (asks_word t.0 (vint w64 t.0) is_i small_i) (λ w _. id⊢ 𝓤 _)
             (and_then ! (load ! (from ! (stop !)) (look ! 28 refl)) (and_then ! (load ! (from ! (stop !)) (look ! 20 refl)) (no_more !)))
             (λ w vw _ e-w is-w.
             use1 𝓛 (‵ (flft κ'' q'') ⊛ ‵ ftrue) (id⊢ 𝓤 _) $ split ! $ move ! (1 ∷ 2 ∷ []) $ drop ! $ drop ! $
             move ! (2 ∷ 3 ∷ 4 ∷ 5 ∷ 1 ∷ 0 ∷ []) $
             land ! (from ! (stop !)) (init ! 18 refl ((uint_Lawful 𝓛 w32).typed w _ is-w).0) $
-            nothing ! $ calls-fn ! (fm_of 𝓤 H 𝓛.laws 𝓣) slot_of.ended (slot_of.clauses 𝓛 mem run) known.1
+            nothing ! $ calls_fn ! (fm_of 𝓤 H 𝓛.laws 𝓣) slot_of.ended (slot_of.clauses 𝓛 mem run) known.1
             ((tt, tt, tt, (w, tt), (vw ∷ [], tt)), tt) (λ k _. k ≡ w % 256)
             (‵ ftrue) (plainly 𝓛 (u32 ∷ []) (uint_Makes 𝓛 w32, tt) (w, tt) (vw ∷ [], tt) (is-w, tt)) (λ k _. id⊢ 𝓤 _)
             (and_then ! (load ! (from ! (stop !)) (look ! 19 refl)) (no_more !))
             (λ k wk _ e-k is-k. drop ! $ drop ! $ land ! (from ! (stop !)) (init ! 16 refl ((uint_Lawful 𝓛 w64).typed k _ is-k).0) $
             -- the record
-            move ! (2 ∷ []) $ use1 𝓛 (‵ Lent ⊛ ‵ Lent) ((shr_copy 𝓛 (named 0) κ' Ns).twice (ref-at b' o' γ' ns) (vptr b' o'
+            move ! (2 ∷ []) $ use1 𝓛 (‵ Lent ⊛ ‵ Lent) ((shr_copy 𝓛 (named 0) κ' Ns).twice (ref_at b' o' γ' ns) (vptr b' o'
             ∷ [])) $
             split ! $ move ! (4 ∷ 0 ∷ []) $ join ! $
-            calls-fn ! (fm_of 𝓤 H 𝓛.laws 𝓣) record-at.ended (record-at.clauses 𝓛 mem run) known.2 (to_at t.0 (vint w64 t.0))
-            (λ r _. r ≡ get_or records t.0 blank) (‵ (flft κ' q') ⊛ ‵ Lent) (asks_at t.0 (vint w64 t.0) is-i small-i)
+            calls_fn ! (fm_of 𝓤 H 𝓛.laws 𝓣) record-at.ended (record-at.clauses 𝓛 mem run) known.2 (to_at t.0 (vint w64 t.0))
+            (λ r _. r ≡ get_or records t.0 blank) (‵ (flft κ' q') ⊛ ‵ Lent) (asks_at t.0 (vint w64 t.0) is_i small_i)
             (λ r _. id⊢ 𝓤 _)
             (and_then ! (load ! (from ! (stop !)) (look ! 24 refl)) (and_then ! (load ! (from ! (stop !)) (look ! 20 refl)) (no_more !)))
-            (λ r v _ e-r is-r.
+            (λ r v _ e_r is_r.
             use1 𝓛 (‵ (flft κ' q') ⊛ ‵ ftrue) (id⊢ 𝓤 _) $ split ! $ move ! (1 ∷ 2 ∷ []) $ drop ! $ drop ! $
             move ! (2 ∷ 3 ∷ 1 ∷ 0 ∷ []) $
-            land ! (from ! (stop !)) (init ! 14 refl (typed 𝓛 r is-r)) $
+            land ! (from ! (stop !)) (init ! 14 refl (typed 𝓛 r is_r)) $
             -- the table is lent again for a lifetime ν of the call
             assigns ! (addr ! (from ! (fld ! refl (hop ! (look_in ! 30 (sub ! 0 refl (whole !))) (stop !))))) (from ! (stop !))
             (init ! 8 refl (tt, tt)) $
@@ -421,11 +421,11 @@ module _ {M : Type 1} {𝓤 : Ura M} (𝓛 : Logic 𝓤) (mem : Memory → SProp
             use2 𝓛 (later (some (λ (δ : GName). ‵ (Own (ν ∷ []) δ t.1 (length t.1)) ⊛ ‵ (LentAgain R κ (ν ∷ []) q γ b o δ t.1))))
             (lends_again R κ (ν ∷ []) q γ b o 𝓛 (named 0) (named 0) t.1) $ await ! tt $
             pick ! (λ δ. split ! $ move ! (2 ∷ 0 ∷ []) $ join ! $
-            calls-fn ! (fm_of 𝓤 H 𝓛.laws 𝓣) replace.ended (replace.clauses 𝓛 mem run) known.3
-            (to-replace ν δ t.1 k wk r v) (λ _ zs. zs.0 ≡ set t.1 k r)
+            calls_fn ! (fm_of 𝓤 H 𝓛.laws 𝓣) replace.ended (replace.clauses 𝓛 mem run) known.3
+            (to_replace ν δ t.1 k wk r v) (λ _ zs. zs.0 ≡ set t.1 k r)
             (‵ (flft (ν ∷ []) full_share) ⊛ ‵ (Own (ν ∷ []) δ t.1 (length t.1)))
-            (lent-first 𝓛 (usize ∷ R ∷ []) (uint_Makes 𝓛 w64, (makes 𝓛, tt)) (k, (r, tt))
-            (wk ∷ [], (v ∷ [], tt)) (is-k, (is-r, tt)) (MutSlice (named 0) (ν ∷ []) R) (ref b o δ t.1) (s (length t.1) ∷ [])
+            (lent_first 𝓛 (usize ∷ R ∷ []) (uint_Makes 𝓛 w64, (makes 𝓛, tt)) (k, (r, tt))
+            (wk ∷ [], (v ∷ [], tt)) (is-k, (is_r, tt)) (MutSlice (named 0) (ν ∷ []) R) (ref b o δ t.1) (s (length t.1) ∷ [])
             (ν ∷ []) full_share) (λ _ zs. id⊢ 𝓤 _)
             (and_then ! (load ! (from ! (stop !)) (look ! 6 refl))
             (and_then ! (load ! (from ! (stop !)) (look ! 16 refl)) (and_then ! (load ! (from ! (stop !)) (look ! 14 refl)) (no_more !))))
@@ -448,8 +448,8 @@ module _ {M : Type 1} {𝓤 : Ura M} (𝓛 : Logic 𝓤) (mem : Memory → SProp
               zs.0,
               add-one-le less,
               e-len ∙ t.3,
-              scatters-more t.1 zs.0 records slots t.0 k within whole-records t.4
-                  (slot-listed ws lent t.0 k (e-k ∙ ap (λ (u : ℕ). u % 256) e-w) within) (e-z ∙ ap (set t.1 k) e-r),
+              scatters_more t.1 zs.0 records slots t.0 k within whole_records t.4
+                  (slot_listed ws lent t.0 k (e-k ∙ ap (λ (u : ℕ). u % 256) e-w) within) (e-z ∙ ap (set t.1 k) e_r),
             ) (add-one-dec n t.0 less))))))))
           where
             less : t.0 < n
@@ -458,14 +458,14 @@ module _ {M : Type 1} {𝓤 : Ura M} (𝓛 : Logic 𝓤) (mem : Memory → SProp
             within : t.0 < length slots
             within = rw (← counted) less
 
-            small-i : t.0 < 32
-            small-i = lt_of_lt_of_le less small
+            small_i : t.0 < 32
+            small_i = lt_of_lt_of_le less small
 
-            is-i : Is usize t.0 (vint w64 t.0 ∷ [])
-            is-i = (refl, lt_of_lt_of_le less (le_of_lt gn))
+            is_i : Is usize t.0 (vint w64 t.0 ∷ [])
+            is_i = (refl, lt_of_lt_of_le less (le_of_lt gn))
 
-            whole-records : t.0 < length records
-            whole-records = rw records-counted small-i
+            whole_records : t.0 < length records
+            whole_records = rw records_counted small_i
 
             next : t.0 + 1 < 2 ^ 64
             next = lt_of_le_of_lt (add-one-le less) gn
@@ -485,7 +485,7 @@ module _ {M : Type 1} {𝓤 : Ura M} (𝓛 : Logic 𝓤) (mem : Memory → SProp
             move ! (20 ∷ 21 ∷ []) $ free1 ! $ move ! (18 ∷ 19 ∷ []) $ free1 ! $ move ! (16 ∷ 17 ∷ []) $ free1 ! $
             move ! (14 ∷ 15 ∷ []) $ free1 ! $ move ! (12 ∷ 13 ∷ []) $ free1 ! $ move ! (10 ∷ 11 ∷ []) $ free1 ! $
             move ! (8 ∷ 9 ∷ []) $ free1 ! $ move ! (6 ∷ 7 ∷ []) $ free1 ! $ free0 ! $ keep ! (0 ∷ 1 ∷ 3 ∷ 5 ∷ []) $
-            by ! (exits t.1 (scatters-all t.1 records slots t.0 past t.4) t.3)
+            by ! (exits t.1 (scatters_all t.1 records slots t.0 past t.4) t.3)
           where
             past : length slots ≤ t.0
             past = rw (← counted) (nltb→le t.0 n (not_T (ltb t.0 n) (λ h. subst T z h)))
@@ -497,7 +497,7 @@ module _ {M : Type 1} {𝓤 : Ura M} (𝓛 : Logic 𝓤) (mem : Memory → SProp
         looped : ent 𝓤 (⋆ 𝓛 (Inv (0, ys, zero-le, refl, refl))) (Wp 𝓤 H C Λ En body.t-3 (at_return 𝓤 H En Post))
         looped =
             qed 𝓛 (Inv (0, ys, zero-le, refl, refl)) ∵ exec ! C Λ En body.t-3 (at_ret En Post) $ first ! $ blocks ! $
-            loops ! 𝓣 Nearer Nearer-wf Inv turns (0, ys, zero-le, refl, refl)
+            loops ! 𝓣 Nearer Nearer_wf Inv turns (0, ys, zero-le, refl, refl)
 
     walk : (𝓣 : Tables 𝓤 H) → Known 𝓣.C
         → ent 𝓤 (on_entry 𝓛 f.signature (κ, (κ'', (κ', tt))) (q, (q'', (q', tt))) x at)
@@ -510,19 +510,19 @@ module _ {M : Type 1} {𝓤 : Ura M} (𝓛 : Logic 𝓤) (mem : Memory → SProp
         alloc1 ! (λ l₈. alloc1 ! (λ l₉. alloc1 ! (λ l₁₀. alloc1 ! (λ l₁₁. alloc1 ! (λ l₁₂. alloc1 ! (λ l₁₃. alloc0 ! $ params1 ! $
         pass1 ! (init ! 24 refl (tt, (tt, (record { fits = room.0 }, tt)))) $ pass1 ! (init ! 22 refl (tt, tt)) $
         pass1 ! (init ! 20 refl ((uint_Lawful 𝓛 w64).typed lent _ gv).0) $ pass1 ! (init ! 18 refl (tt, tt)) $ pass0 ! $
-        nothing ! $ calls-fn ! (fm_of 𝓤 H 𝓛.laws 𝓣) count.ended (count.clauses 𝓛 mem run) known.0
+        nothing ! $ calls_fn ! (fm_of 𝓤 H 𝓛.laws 𝓣) count.ended (count.clauses 𝓛 mem run) known.0
         ((tt, tt, tt, (lent, tt), (nv ∷ [], tt)), tt) (λ n _. (n ≡ min lent 32) × (n ≤ 32))
         (‵ ftrue) (plainly 𝓛 (usize ∷ []) (uint_Makes 𝓛 w64, tt) (lent, tt) (nv ∷ [], tt) (gv, tt)) (λ n _. id⊢ 𝓤 _)
-        (and_then ! (load ! (from ! (stop !)) (look ! 21 refl)) (no_more !)) (λ n v _ e-n is-n. drop ! $ drop ! $
-        land ! (from ! (stop !)) (init ! 16 refl ((uint_Lawful 𝓛 w64).typed n _ is-n).0) $
-        rewrite ! 16 (λ (u : Val). ‵ (fat full_share (ty_int w64) l₅ 0 u)) (ap only is-n.0) refl $
+        (and_then ! (load ! (from ! (stop !)) (look ! 21 refl)) (no_more !)) (λ n v _ e_n is_n. drop ! $ drop ! $
+        land ! (from ! (stop !)) (init ! 16 refl ((uint_Lawful 𝓛 w64).typed n _ is_n).0) $
+        rewrite ! 16 (λ (u : Val). ‵ (fat full_share (ty_int w64) l₅ 0 u)) (ap only is_n.0) refl $
         assigns ! (of_opd ! (lit ! tt)) (from ! (stop !)) (init ! 14 refl (tt, record { fits = lit< tt })) $
         move ! (29 ∷ []) $ fsplit ! $ move ! (1 ∷ []) $ fsplit ! $ move ! (1 ∷ []) $ fsplit ! $ move ! (1 ∷ []) $ fsplit ! $
         move ! (33 ∷ []) $ split ! $ move ! (1 ∷ []) $ split ! $ move ! (1 ∷ []) $ split ! $
         keep ! (8 ∷ 3 ∷ 4 ∷ 0 ∷ 7 ∷ 2 ∷ 9 ∷ 10 ∷ 11 ∷ 12 ∷ 13 ∷ 14 ∷ 15 ∷ 16 ∷ 17 ∷ 18 ∷ 19 ∷ 20 ∷ 21 ∷ 22 ∷ 23 ∷ 24
         ∷ 25
         ∷ 26 ∷ 27 ∷ 28 ∷ 29 ∷ 30 ∷ 31 ∷ 32 ∷ 33 ∷ 34 ∷ 35 ∷ 36 ∷ []) $
-        by ! (looped n is-n.1 (slots-counted ws lent n listed e-n.0) e-n.1 𝓣 known
+        by ! (looped n is_n.1 (slots_counted ws lent n listed e_n.0) e_n.1 𝓣 known
         l₀ l₁ l₂ l₃ l₄ l₅ l₆ l₇ l₈ l₉ l₁₀ l₁₁ l₁₂ l₁₃))))))))))))))))
 
   f_meets : (𝓣 : Tables 𝓤 H) → Known 𝓣.C → Meets 𝓛 f.signature (WpFn 𝓤 H 𝓣.C 𝓣.Λ code.function) (f.spec 𝓛 mem run)
@@ -552,9 +552,9 @@ module _ {M : Type 1} {𝓤 : Ura M} (𝓛 : Logic 𝓤) (mem : Memory → SProp
       a.1.1.0 (vint w64 a.1.1.0) are.1.1.0
       a.1.1.1.0.ref_ptr.0 a.1.1.1.0.ref_ptr.1 a.1.1.1.0.ghost_name a.1.1.1.0.now pre.1 𝓣 known)))
 
-pub scatter-spec : {M : Type 1} → stated.statement M
+pub scatter_spec : {M : Type 1} → stated.statement M
 unfolding code.routine tables_of
-scatter-spec 𝓤 𝓛 𝓜 𝓡 =
+scatter_spec 𝓤 𝓛 𝓜 𝓡 =
     entered 𝓤 𝓛.H (triple_of 𝓛 f.signature (f.spec 𝓛 𝓜.mem 𝓡.run))
     (tables 𝓤 𝓛.H 𝓜 𝓡 code.env).C (tables 𝓤 𝓛.H 𝓜 𝓡 code.env).Λ #f code.function (code.unfolded 𝓤 𝓛.H 𝓜 𝓡)
     (f_meets 𝓛 𝓜.mem 𝓡.run (tables_of 𝓤 𝓛.H 𝓜 (tables 𝓤 𝓛.H 𝓜 𝓡 code.env)) (

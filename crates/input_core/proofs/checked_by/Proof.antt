@@ -4,8 +4,8 @@ use borrow.Author.Rules.{rules}
 use Rattle.input_core.proofs.checked_by.Statement.{statement}
 use Rattle.input_core.proofs.checked_by.Tie as tie
 
-pub checked-by-spec : {M : Type 1} → statement M
-checked-by-spec =
+pub checked_by_spec : {M : Type 1} → statement M
+checked_by_spec =
     tie.close
     (tie.spec
     (λ c. search rules)

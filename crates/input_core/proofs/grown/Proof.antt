@@ -10,5 +10,5 @@ after-datagram-requires c κs = rw c.before.mss.ensures c.before.before.requires
 returns : tie.Need-returns
 returns c = rw (c.after-datagram.ensures, c.before.before.mss.ensures)
 
-pub grown-spec : {M : Type 1} → statement M
-grown-spec = tie.close (tie.spec (λ c κs. search rules) (λ c. search rules) after-datagram-requires returns)
+pub grown_spec : {M : Type 1} → statement M
+grown_spec = tie.close (tie.spec (λ c κs. search rules) (λ c. search rules) after-datagram-requires returns)

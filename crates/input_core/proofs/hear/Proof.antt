@@ -15,7 +15,7 @@ hear-requires-2 : tie.Need-hear-requires-2
 hear-requires-2 c κs =
     let start = c.before.before.before.before.before.before.before.before.before.before.before.before in
     let whole = start.requires.0.whole in (
-      record { whole_ready = whole.whole_ready; whole-waiting = whole.whole-waiting; whole_numbers = whole.whole_numbers },
+      record { whole_ready = whole.whole_ready; whole_waiting = whole.whole_waiting; whole_numbers = whole.whole_numbers },
       start.requires.0.marked,
       start.requires.0.sound,
       start.requires.2,
@@ -44,8 +44,8 @@ returns c =
       sent.hear.ensures.1,
     )
 
-pub hear-spec : {M : Type 1} → statement M
-hear-spec =
+pub hear_spec : {M : Type 1} → statement M
+hear_spec =
     tie.close
     (tie.spec
     hear-requires

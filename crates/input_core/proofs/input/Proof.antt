@@ -2,14 +2,14 @@
 -- Assumes nothing.
 use mathlib.Core.Path.{refl}
 use borrow.Author.Rules.{rules}
-use Rattle.record_words.specs.RecordWords.{recordsIn}
-use Rattle.record_words.specs.RecordLaws.{records-length}
+use Rattle.record_words.specs.RecordWords.{records_in}
+use Rattle.record_words.specs.RecordLaws.{records_length}
 use Rattle.control.specs.Views.{arrays, link_of}
 use Rattle.control.specs.declared.Link.{Link}
 use Rattle.checking.specs.Verdicts.{Admitted}
 use Rattle.checking.specs.VerdictLaws.{admitted}
 use Rattle.input_core.proofs.Checks.{admits, refuses, passes, hearable}
-use Rattle.input_core.proofs.Takes.{takes-nothing}
+use Rattle.input_core.proofs.Takes.{takes_nothing}
 use Rattle.input_core.proofs.input.Statement.{statement}
 use Rattle.input_core.proofs.input.Tie as tie
 
@@ -25,13 +25,13 @@ block s =
 
 -- the verdict on 7 and 13
 judged : (c : tie.After-judged) → let sizes = c.before.before.before in let s = sizes.before.before.before.before.before in
-    Admitted sizes.enough.result (block s) (recordsIn s.args.records.now) s.requires.2.0 s.args.receive-marks.now
+    Admitted sizes.enough.result (block s) (records_in s.args.records.now) s.requires.2.0 s.args.receive-marks.now
     c.judged.result
 judged c =
     let fits = c.before in
     let s = fits.before.before.before.before.before.before.before in
     admitted (block s) _ _ _ _ s.args.sound _ _ c.judged.ensures s.requires.2.1
-    (record { whole = records-length 32 _ s.requires.1; fits = fits.flight-fits.ensures })
+    (record { whole = records_length 32 _ s.requires.1; fits = fits.flight-fits.ensures })
 
 returns : tie.Need-returns
 returns c =
@@ -40,7 +40,7 @@ returns c =
     let admit = checks.before.before in
     let sizes = admit.before.before.before in
     let s = sizes.before.before.before.before.before in (
-      takes-nothing _ (block s) _ _ _ _ _
+      takes_nothing _ (block s) _ _ _ _ _
           (refuses (block s) _ _ _ _ _ _ _ _ sizes.enough.ensures (judged admit)
           _ checks.before.mss.ensures _ _ checks.checked-by.ensures _ branch.checked.given.1),
       s.requires.1,
@@ -73,8 +73,8 @@ returns-2 c =
       heard.hear.ensures.1,
     )
 
-pub input-spec : {M : Type 1} → statement M
-input-spec =
+pub input_spec : {M : Type 1} → statement M
+input_spec =
     tie.close
     (tie.spec
     (λ c κs. search rules)

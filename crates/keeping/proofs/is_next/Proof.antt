@@ -4,5 +4,5 @@ use borrow.Author.Rules.{rules}
 use Rattle.keeping.proofs.is_next.Statement.{statement}
 use Rattle.keeping.proofs.is_next.Tie as tie
 
-pub is-next-spec : {M : Type 1} → statement M
-is-next-spec = tie.close (tie.spec (λ c κs. search rules) (λ c. cc))
+pub is_next_spec : {M : Type 1} → statement M
+is_next_spec = tie.close (tie.spec (λ c κs. search rules) (λ c. cc))

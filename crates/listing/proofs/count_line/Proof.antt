@@ -2,13 +2,13 @@
 -- Assumes nothing.
 use borrow.Author.Rules.{rules}
 use Rattle.notation.specs.Ascii.{ascii}
-use Rattle.listing.specs.Lines.{countLine}
+use Rattle.listing.specs.Lines.{count_line}
 use Rattle.listing.proofs.count_line.Statement.{statement}
 use Rattle.listing.proofs.count_line.Tie as tie
 
 returns : tie.Need-returns
-unfolding countLine ascii
+unfolding count_line ascii
 returns c = c.last_Line.ensures
 
-pub count-line-spec : {M : Type 1} → statement M
-count-line-spec = tie.close (tie.spec (search rules) (search rules) returns)
+pub count_line_spec : {M : Type 1} → statement M
+count_line_spec = tie.close (tie.spec (search rules) (search rules) returns)

@@ -10,28 +10,28 @@ use Rattle.wire.specs.declared.Header.{Header}
 use Rattle.protocol.specs.declared.Refusal.TheVariants.{ShortDatagram, ShortPart}
 use Rattle.wire.specs.declared.Found.TheVariants.{Whole, Short}
 use Rattle.datagram.specs.Datagrams.{parse, counted}
-use Rattle.datagram.specs.FoundLaws.{found-whole, found-short}
-use Rattle.datagram.specs.WalkLaws.{parse-short}
+use Rattle.datagram.specs.FoundLaws.{found_whole, found_short}
+use Rattle.datagram.specs.WalkLaws.{parse_short}
 use Rattle.datagram.specs.declared.Checked.{Checked}
 use Rattle.datagram.specs.declared.Checked.TheVariants.{Refused}
 use Rattle.listing.specs.Listings.{judged}
-use Rattle.listing.specs.ListingLaws.{listed-long, listed-parse}
+use Rattle.listing.specs.ListingLaws.{listed_long, listed_parse}
 use Rattle.listing.proofs.judge.Statement.{statement}
 use Rattle.listing.proofs.judge.Tie as tie
 
 module _ (s : List ℕ) where
   long : 65536 < length s → Refused ShortPart ≡ judged s
-  long h = rw (listed-long s h)
+  long h = rw (listed_long s h)
 
   short : length s ≤ 65536 → header_at s 0 ≡ Short → Refused ShortDatagram ≡ judged s
-  short h f = rw (listed-parse s h, parse-short _ _ s (found-short s 0 f))
+  short h f = rw (listed_parse s h, parse_short _ _ s (found_short s 0 f))
 
   walked : length s ≤ 65536 → (h : Header) → header_at s 0 ≡ Whole h → (r : Checked) → r ≡ counted 0 (parse h.conv 488 s) → r ≡ judged s
   unfolding decode
-  walked p h f r e = rw (e, listed-parse s p, (found-whole s 0 h f).header)
+  walked p h f r e = rw (e, listed_parse s p, (found_whole s 0 h f).header)
 
-pub judge-spec : {M : Type 1} → statement M
-judge-spec =
+pub judge_spec : {M : Type 1} → statement M
+judge_spec =
     tie.close
     (tie.spec
     (λ c. long _ (search rules))

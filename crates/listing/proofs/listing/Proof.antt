@@ -4,8 +4,8 @@ use mathlib.Core.Path.{sym, ◌∙◌}
 use native.Mathlib.Omega.{arith}
 use borrow.Author.Rules.{rules}
 use Rattle.notation.specs.Ascii.{ascii}
-use Rattle.listing.specs.Lines.{columnLine}
-use Rattle.listing.specs.ListingLaws.{wrote_then, wrote_none, wrote-all, wrote-refused}
+use Rattle.listing.specs.Lines.{column_line}
+use Rattle.listing.specs.ListingLaws.{wrote_then, wrote_none, wrote_all, wrote_refused}
 use Rattle.listing.proofs.listing.Statement.{statement}
 use Rattle.listing.proofs.listing.Tie as tie
 
@@ -18,27 +18,27 @@ put-segments-requires c κs =
     )
 
 returns-2 : tie.Need-returns-2
-unfolding columnLine ascii
+unfolding column_line ascii
 returns-2 c =
     let last = c.before.before in
     let branch = last.before.before.before.before in
     let call = branch.before.before in
     let put = call.before.before.before in
-    wrote-all _ _ _ _ put.before.before.before.if1.false
+    wrote_all _ _ _ _ put.before.before.before.if1.false
     (wrote_then _ _ _ _ _ _ _ _ put.put-text.ensures
-    (wrote-refused _ _ _ _ _ _ _ (sym call.judge.ensures ∙ branch.checked.given.1) last.before.refusal-line.ensures
+    (wrote_refused _ _ _ _ _ _ _ (sym call.judge.ensures ∙ branch.checked.given.1) last.before.refusal-line.ensures
     last.put-line.ensures))
 
 returns-3 : tie.Need-returns-3
-unfolding columnLine ascii
+unfolding column_line ascii
 returns-3 c =
     let last = c.before.before in
     let put = last.before.before.before.before.before.before.before.before in
-    wrote-all _ _ _ _ put.before.before.before.if1.false
+    wrote_all _ _ _ _ put.before.before.before.if1.false
     (wrote_then _ _ _ _ _ _ _ _ put.put-text.ensures last.put-segments.ensures)
 
-pub listing-spec : {M : Type 1} → statement M
-listing-spec =
+pub listing_spec : {M : Type 1} → statement M
+listing_spec =
     tie.close
     (tie.spec
     (λ c. wrote_none _ _ c.if1.true)

@@ -2,14 +2,14 @@
 -- Assumes nothing.
 use borrow.Author.Rules.{rules}
 use Rattle.notation.specs.Ascii.{ascii}
-use Rattle.listing.specs.Lines.{refusalLine}
+use Rattle.listing.specs.Lines.{refusal_line}
 use Rattle.listing.proofs.refusal_line.Statement.{statement}
 use Rattle.listing.proofs.refusal_line.Tie as tie
 
 returns : tie.Need-returns
-unfolding refusalLine ascii
+unfolding refusal_line ascii
 returns c = rw c.before.number.ensures at c.last_Line.ensures
 
-pub refusal-line-spec : {M : Type 1} → statement M
-refusal-line-spec =
+pub refusal_line_spec : {M : Type 1} → statement M
+refusal_line_spec =
     tie.close (tie.spec (search rules) (search rules) (search rules) (search rules) returns)

@@ -3,7 +3,7 @@
 use native.Mathlib.Omega.{arith}
 use borrow.Author.Rules.{rules}
 use Rattle.wire.specs.Headers.{FieldsFit}
-use Rattle.listing.specs.LineLaws.{holds-added, segment-parts, length_front, length_back}
+use Rattle.listing.specs.LineLaws.{holds_added, segment_parts, length_front, length_back}
 use Rattle.listing.proofs.segment_line.Statement.{statement}
 use Rattle.listing.proofs.segment_line.Tie as tie
 
@@ -17,10 +17,10 @@ returns : tie.Need-returns
 returns c =
     let front = c.before in
     let start = front.before.before in
-    let before = holds-added _ _ _ _ front.before.empty.ensures front.put_front.ensures
+    let before = holds_added _ _ _ _ front.before.empty.ensures front.put_front.ensures
     (omega (arith, length_front _ (fits start))) in
-    rw segment-parts (holds-added _ _ _ _ before c.put_back.ensures
+    rw segment_parts (holds_added _ _ _ _ before c.put_back.ensures
     (omega (arith, length_front _ (fits start), length_back _ (fits start))))
 
-pub segment-line-spec : {M : Type 1} → statement M
-segment-line-spec = tie.close (tie.spec (search rules) (search rules) put-back-requires returns)
+pub segment_line_spec : {M : Type 1} → statement M
+segment_line_spec = tie.close (tie.spec (search rules) (search rules) put-back-requires returns)

@@ -142,32 +142,32 @@ use Rattle.records.proofs.Walk.{
   fat,
   exec,
 }
-use Rattle.records.proofs.Call.{calls-fn, plainly}
+use Rattle.records.proofs.Call.{calls_fn, plainly}
 use Rattle.records.proofs.Shared.{LentShared, lends_shared, shared_back}
 use Rattle.records.proofs.Rows.{R}
-use Rattle.lending.proofs.Fields.{ref-at, lend-mut, back-mut, lend-shr, back_shr, cell_out, cell_in, tells-length, lend-whole, back_whole}
-use Rattle.lending.proofs.Locals.{envAt, allocates, frees_all, holds, empty}
+use Rattle.lending.proofs.Fields.{ref_at, lend_mut, back_mut, lend_shr, back_shr, cell_out, cell_in, tells_length, lend_whole, back_whole}
+use Rattle.lending.proofs.Locals.{env_at, allocates, frees_all, holds, empty}
 use Rattle.lending.proofs.Parts.{behind, spread, same}
 use Rattle.lending.proofs.Block.{
   L,
   Open,
   Back,
-  link-own,
-  link-shr,
-  opens-link,
-  closes-link,
-  looks-link,
-  shuts-link,
-  place-settings,
-  place-flight,
-  place-arrival,
-  place-clock,
-  place-queued,
-  place-outstanding,
-  place-transmissions,
-  place-ready,
-  place-waiting,
-  place-waiting-numbers,
+  link_own,
+  link_shr,
+  opens_link,
+  closes_link,
+  looks_link,
+  shuts_link,
+  place_settings,
+  place_flight,
+  place_arrival,
+  place_clock,
+  place_queued,
+  place_outstanding,
+  place_transmissions,
+  place_ready,
+  place_waiting,
+  place_waiting_numbers,
 }
 use Rattle.control.specs.declared.Link.{Link}
 use Rattle.timing.specs.declared.Record.{Record}
@@ -209,15 +209,15 @@ use Rattle.open_core.specs.declared.Opened.{Opened}
 use Rattle.open_core.specs.contracts.Opened as opened-row
 use Rattle.open_core.proofs.Opened.TheLaws as opened-laws
 use mathlib.Core.Path.{subst}
-use Rattle.control.specs.Views.{Arrays, arraysOf, link_of}
-use Rattle.promises.specs.Parts.{lentLengths, parts_of}
-use Rattle.promises.specs.Outcomes.{opensWith}
+use Rattle.control.specs.Views.{Arrays, arrays_of, link_of}
+use Rattle.promises.specs.Parts.{lent_lengths, parts_of}
+use Rattle.promises.specs.Outcomes.{opens_with}
 use Rattle.promises.specs.Promises.{OpenPromise}
 use Rattle.promises.specs.Cores.{OpenCore}
-use Rattle.codes.specs.Codes.{answerCode, settingsOf}
+use Rattle.codes.specs.Codes.{answer_code, settings_of}
 use Rattle.codes.specs.Gives.{Gives}
 use Rattle.codes.proofs.Told.{told}
-use Rattle.from_cores.proofs.Opening.{open-promised}
+use Rattle.from_cores.proofs.Opening.{open_promised}
 use Rattle.codes.specs.contracts.settings as settings-of
 use Rattle.codes.proofs.settings.Symbol as settings-of-def
 use Rattle.codes.proofs.settings.Met as settings-of-thm
@@ -295,7 +295,7 @@ module _ {M : Type 1} {𝓤 : Ura M} (𝓛 : Logic 𝓤) (at_mem : Memory → SP
     abbrev x : MutBor Link ×
         (ℕ × (ℕ × (ℕ ×
         (ℕ × (ℕ × (ℕ × (ℕ × (MutBor (List ℕ) × (MutBor (List ℕ) × (MutBor (List Record) × (MutBor (List ℕ) × Unit {0})))))))))))
-    x = (ref-at b o γ h, (x₁, (x₂, (x₃, (x₄, (x₅, (x₆, (x₇, (x₈, (x₉, (x₁₀, (x₁₁, tt))))))))))))
+    x = (ref_at b o γ h, (x₁, (x₂, (x₃, (x₄, (x₅, (x₆, (x₇, (x₈, (x₉, (x₁₀, (x₁₁, tt))))))))))))
 
     abbrev s₈ : Val
     s₈ = slice_val x₈.ref_ptr (length x₈.now)
@@ -338,19 +338,19 @@ module _ {M : Type 1} {𝓤 : Ura M} (𝓛 : Logic 𝓤) (at_mem : Memory → SP
         (((κ₀, (κ₁, (κ₂, (κ₃, (κ₄, tt))))), (q₀, (q₁, (q₂, (q₃, (q₄, tt))))), tt, x, at), tt)
 
     -- what table-len is called at, and that what it asks is had
-    abbrev to-table-len : (triple_of 𝓛 table-len.signature (table-len.spec 𝓛 at_mem run)).Ghost
-    to-table-len = (((κ₃, tt), (q₃, tt), tt, (x₁₀, tt), (s₁₀ ∷ [], tt)), tt)
+    abbrev to_table_len : (triple_of 𝓛 table-len.signature (table-len.spec 𝓛 at_mem run)).Ghost
+    to_table_len = (((κ₃, tt), (q₃, tt), tt, (x₁₀, tt), (s₁₀ ∷ [], tt)), tt)
 
-    asks-table-len : ent 𝓤 (⋆ 𝓛 (‵ (flft κ₃ q₃) ∷ ‵ Own₁₀ ∷ []))
-        ((triple_of 𝓛 table-len.signature (table-len.spec 𝓛 at_mem run)).pre (to-table-len))
-    asks-table-len =
+    asks_table_len : ent 𝓤 (⋆ 𝓛 (‵ (flft κ₃ q₃) ∷ ‵ Own₁₀ ∷ []))
+        ((triple_of 𝓛 table-len.signature (table-len.spec 𝓛 at_mem run)).pre (to_table_len))
+    asks_table_len =
         qed 𝓛 (‵ (flft κ₃ q₃) ∷ ‵ Own₁₀ ∷ []) ∵ nothing ! $ move ! (1 ∷ 0 ∷ []) $ join ! $ nothing ! $ move ! (2 ∷ 0 ∷ []) $
         fjoin ! $ move ! (1 ∷ 0 ∷ []) $ join ! $ nothing ! $ move ! (1 ∷ 0 ∷ []) $ done !
 
     -- what core is called at, and that what it asks is had
-    abbrev to-core : (y₀ : Settings) (u₀ : Val) (y₁ : Settings) (u₁ : Val) (y₂ : Flight) (u₂ : Val) (y₃ : Arrival) (u₃ : Val) (y₄ : Clock)
+    abbrev to_core : (y₀ : Settings) (u₀ : Val) (y₁ : Settings) (u₁ : Val) (y₂ : Flight) (u₂ : Val) (y₃ : Arrival) (u₃ : Val) (y₄ : Clock)
         (u₄ : Val) (y₅ : ℕ) (u₅ : Val) → (triple_of 𝓛 core.signature (core.spec 𝓛 at_mem run)).Ghost
-    to-core y₀ u₀ y₁ u₁ y₂ u₂ y₃ u₃ y₄ u₄ y₅ u₅ = (
+    to_core y₀ u₀ y₁ u₁ y₂ u₂ y₃ u₃ y₄ u₄ y₅ u₅ = (
       (
         (κ₁, (κ₂, (κ₄, tt))),
         (q₁, (q₂, (q₄, tt))),
@@ -361,13 +361,13 @@ module _ {M : Type 1} {𝓤 : Ura M} (𝓛 : Logic 𝓤) (at_mem : Memory → SP
       tt,
     )
 
-    asks-core : (y₀ : Settings) (u₀ : Val) → Is settings-row.the_row y₀ (u₀ ∷ []) → (y₁ : Settings) (u₁ : Val)
+    asks_core : (y₀ : Settings) (u₀ : Val) → Is settings-row.the_row y₀ (u₀ ∷ []) → (y₁ : Settings) (u₁ : Val)
         → Is settings-row.the_row y₁ (u₁ ∷ []) → (y₂ : Flight) (u₂ : Val) → Is flight-row.the_row y₂ (u₂ ∷ [])
         → (y₃ : Arrival) (u₃ : Val) → Is arrival-row.the_row y₃ (u₃ ∷ []) → (y₄ : Clock) (u₄ : Val)
         → Is clock-row.the_row y₄ (u₄ ∷ []) → (y₅ : ℕ) (u₅ : Val) → Is usize y₅ (u₅ ∷ [])
         → ent 𝓤 (⋆ 𝓛 (‵ (flft κ₁ q₁) ∷ ‵ Own₈ ∷ ‵ (flft κ₂ q₂) ∷ ‵ Own₉ ∷ ‵ (flft κ₄ q₄) ∷ ‵ Own₁₁
-        ∷ [])) ((triple_of 𝓛 core.signature (core.spec 𝓛 at_mem run)).pre (to-core y₀ u₀ y₁ u₁ y₂ u₂ y₃ u₃ y₄ u₄ y₅ u₅))
-    asks-core y₀ u₀ is₀ y₁ u₁ is₁ y₂ u₂ is₂ y₃ u₃ is₃ y₄ u₄ is₄ y₅ u₅ is₅ =
+        ∷ [])) ((triple_of 𝓛 core.signature (core.spec 𝓛 at_mem run)).pre (to_core y₀ u₀ y₁ u₁ y₂ u₂ y₃ u₃ y₄ u₄ y₅ u₅))
+    asks_core y₀ u₀ is₀ y₁ u₁ is₁ y₂ u₂ is₂ y₃ u₃ is₃ y₄ u₄ is₄ y₅ u₅ is₅ =
         qed 𝓛 (‵ (flft κ₁ q₁) ∷ ‵ Own₈ ∷ ‵ (flft κ₂ q₂) ∷ ‵ Own₉ ∷ ‵ (flft κ₄ q₄) ∷ ‵ Own₁₁ ∷ []) ∵ nothing ! $
         move ! (5 ∷ 0 ∷ []) $ join ! $ move ! (3 ∷ 0 ∷ []) $ join ! $ move ! (1 ∷ 0 ∷ []) $ join ! $ nothing ! $ move ! (4 ∷ 0 ∷ []) $
         fjoin ! $ move ! (3 ∷ 0 ∷ []) $ fjoin ! $ move ! (2 ∷ 0 ∷ []) $ fjoin ! $
@@ -381,12 +381,12 @@ module _ {M : Type 1} {𝓤 : Ura M} (𝓛 : Logic 𝓤) (at_mem : Memory → SP
         fjoin ! $ move ! (1 ∷ 0 ∷ []) $ join ! $ nothing ! $ move ! (1 ∷ 0 ∷ []) $ done !
 
     abbrev Had : (k : Link) → List (Item 𝓤)
-    Had k = ‵ (link-own κ₀ b o γ k) ∷ ‵ (flft κ₀ q₀) ∷ ‵ (flft κ₁ q₁) ∷ ‵ (flft κ₂ q₂) ∷ ‵ (flft κ₃ q₃)
+    Had k = ‵ (link_own κ₀ b o γ k) ∷ ‵ (flft κ₀ q₀) ∷ ‵ (flft κ₁ q₁) ∷ ‵ (flft κ₂ q₂) ∷ ‵ (flft κ₃ q₃)
         ∷ ‵ (flft κ₄ q₄) ∷ []
 
     -- what the contract says
     abbrev Said : (r : ℤ) (k : Link) → Type 0
-    Said r k = Gives answerCode (λ a. OpenPromise (settingsOf x₁ x₂ x₃ x₄ x₅ x₆ x₇) h
+    Said r k = Gives answer_code (λ a. OpenPromise (settings_of x₁ x₂ x₃ x₄ x₅ x₆ x₇) h
         (parts_of x₈.now x₉.now x₁₀.now x₁₁.now) a k (parts_of x₈.now x₉.now x₁₀.now x₁₁.now)) r
 
     exits : (r : ℤ) (w : Val) (k : Link) → Said r k → Is i32 r (w ∷ []) → ent 𝓤 (⋆ 𝓛 (Had k)) (Post w)
@@ -405,17 +405,17 @@ module _ {M : Type 1} {𝓤 : Ura M} (𝓛 : Logic 𝓤) (at_mem : Memory → SP
     module _ (C : Calls 𝓤 H) (Λ : Loops 𝓤 H) (fm : FmC 𝓤 H 𝓛.laws C) (known : Known C) where
       -- where the locals lie
       abbrev En : (ℕ → ℕ) → Env 𝓤 H
-      En p = envAt (code.function).locals p
+      En p = env_at (code.function).locals p
 
       -- part 1: what it knows, what it tells; what it has, and leaves
       abbrev Known₁ : Type 0
       Known₁ = Unit {0}
 
       abbrev New₁ : Known₁ → Type 0
-      New₁ past = (c : Settings) × (w-c : Val) × (e-c : c ≡ settingsOf x₁ x₂ x₃ x₄ x₅ x₆ x₇) × (Is settings-row.the_row c (w-c ∷ []))
+      New₁ past = (c : Settings) × (w_c : Val) × (e_c : c ≡ settings_of x₁ x₂ x₃ x₄ x₅ x₆ x₇) × (Is settings-row.the_row c (w_c ∷ []))
 
       abbrev Has₁ : (ℕ → ℕ) → Known₁ → List (Item 𝓤) → List (Item 𝓤)
-      Has₁ p past Γ = ‵ (flft κ₀ q₀) ∷ ‵ (link-own κ₀ b o γ h) ∷ ‵ (froom settings-laws.mir (p 13) 0)
+      Has₁ p past Γ = ‵ (flft κ₀ q₀) ∷ ‵ (link_own κ₀ b o γ h) ∷ ‵ (froom settings-laws.mir (p 13) 0)
           ∷ ‵ (fat full_share (ty_int w32) (p 8) 0 (v₇)) ∷ ‵ (fat full_share (ty_int w32) (p 7) 0 (v₆))
           ∷ ‵ (fat full_share (ty_int w32) (p 6) 0 (v₅)) ∷ ‵ (fat full_share (ty_int w32) (p 5) 0 (v₄))
           ∷ ‵ (fat full_share (ty_int w32) (p 4) 0 (v₃)) ∷ ‵ (fat full_share (ty_int w32) (p 3) 0 (v₂))
@@ -441,22 +441,22 @@ module _ {M : Type 1} {𝓤 : Ura M} (𝓛 : Logic 𝓤) (at_mem : Memory → SP
       part₁ {Γ = Γ} t p past on = record {
         prf =
             qed 𝓛 (Has₁ p past Γ) ∵ exec ! C Λ (En p) (behind 0 (code.function).body) (at_ret (En p) Post) $
-            move ! (1 ∷ 0 ∷ []) $ opens-link b o γ ! tt h $
+            move ! (1 ∷ 0 ∷ []) $ opens_link b o γ ! tt h $
             -- [F:settings; F:flight; F:arrival; F:clock; F:queued; F:outstanding; F:transmissions; F:ready; F:waiting; F:«waiting_numbers»;
             -- back; opened; the locals]
-            move ! (4 ∷ []) $ tells-length ! full_share u32 128 h.queued b (o + 124)
-            (λ len-queued. move ! (5 ∷ []) $
-            tells-length ! full_share u32 32 h.outstanding b (o + 636)
-            (λ len-outstanding. move ! (6 ∷ []) $
-            tells-length ! full_share u8 32 h.transmissions b (o + 764)
-            (λ len-transmissions. move ! (7 ∷ []) $
-            tells-length ! full_share u32 128 h.ready b (o + 796)
-            (λ len-ready. move ! (8 ∷ []) $
-            tells-length ! full_share u32 128 h.waiting b (o + 1308)
-            (λ len-waiting. move ! (9 ∷ []) $
-            tells-length ! full_share u32 128 h.waiting_numbers b (o + 1820)
-            (λ len-waiting-numbers. nothing ! $
-            calls-fn ! fm settings-of.ended (settings-of.clauses 𝓛 at_mem run) known.0 (
+            move ! (4 ∷ []) $ tells_length ! full_share u32 128 h.queued b (o + 124)
+            (λ len_queued. move ! (5 ∷ []) $
+            tells_length ! full_share u32 32 h.outstanding b (o + 636)
+            (λ len_outstanding. move ! (6 ∷ []) $
+            tells_length ! full_share u8 32 h.transmissions b (o + 764)
+            (λ len_transmissions. move ! (7 ∷ []) $
+            tells_length ! full_share u32 128 h.ready b (o + 796)
+            (λ len_ready. move ! (8 ∷ []) $
+            tells_length ! full_share u32 128 h.waiting b (o + 1308)
+            (λ len_waiting. move ! (9 ∷ []) $
+            tells_length ! full_share u32 128 h.waiting_numbers b (o + 1820)
+            (λ len_waiting_numbers. nothing ! $
+            calls_fn ! fm settings-of.ended (settings-of.clauses 𝓛 at_mem run) known.0 (
               (
                 tt,
                 tt,
@@ -466,7 +466,7 @@ module _ {M : Type 1} {𝓤 : Ura M} (𝓛 : Logic 𝓤) (at_mem : Memory → SP
               ),
               tt,
             )
-            (λ c _. c ≡ settingsOf x₁ x₂ x₃ x₄ x₅ x₆ x₇)
+            (λ c _. c ≡ settings_of x₁ x₂ x₃ x₄ x₅ x₆ x₇)
             (‵ ftrue) (plainly 𝓛 (u32 ∷ u32 ∷ u32 ∷ u32 ∷ u32 ∷ u32 ∷ u32 ∷ []) (
               (uint_Makes 𝓛 w32),
               (
@@ -489,10 +489,10 @@ module _ {M : Type 1} {𝓤 : Ura M} (𝓛 : Logic 𝓤) (at_mem : Memory → SP
             (and_then ! (load ! (from ! (stop !)) (look ! 17 refl))
             (and_then ! (load ! (from ! (stop !)) (look ! 16 refl))
             (and_then ! (load ! (from ! (stop !)) (look ! 15 refl)) (and_then ! (load ! (from ! (stop !)) (look ! 14 refl)) (no_more !))))))))
-            (λ c w-c _ e-c is_c. drop ! $ drop ! $
-            land ! (from ! (stop !)) (init ! 12 refl ((LL.lawful settings-row.the_type settings-laws.the_laws 𝓛).typed c (w-c ∷ []) is_c
+            (λ c w_c _ e_c is_c. drop ! $ drop ! $
+            land ! (from ! (stop !)) (init ! 12 refl ((LL.lawful settings-row.the_type settings-laws.the_laws 𝓛).typed c (w_c ∷ []) is_c
             ).0) $
-            same ! (on (c, w-c, e-c, is_c)))))))));
+            same ! (on (c, w_c, e_c, is_c)))))))));
       }
 
       -- part 2: what it knows, what it tells; what it has, and leaves
@@ -500,12 +500,12 @@ module _ {M : Type 1} {𝓤 : Ura M} (𝓛 : Logic 𝓤) (at_mem : Memory → SP
       Known₂ = Unit {0}
 
       abbrev New₂ : Known₂ → Type 0
-      New₂ past = (was-settings : Is settings-row.the_row h.settings
+      New₂ past = (was_settings : Is settings-row.the_row h.settings
           ((LL.vals settings-row.the_type settings-laws.the_laws) h.settings)) ×
-          (was-flight : Is flight-row.the_row h.flight ((LL.vals flight-row.the_type flight-laws.the_laws) h.flight)) ×
-          (was-arrival : Is arrival-row.the_row h.arrival ((LL.vals arrival-row.the_type arrival-laws.the_laws) h.arrival)) ×
-          (was-clock : Is clock-row.the_row h.clock ((LL.vals clock-row.the_type clock-laws.the_laws) h.clock)) × (m : ℕ) ×
-          (w-m : Val) × (e-m : m ≡ length x₁₀.now) × (Is usize m (w-m ∷ []))
+          (was_flight : Is flight-row.the_row h.flight ((LL.vals flight-row.the_type flight-laws.the_laws) h.flight)) ×
+          (was_arrival : Is arrival-row.the_row h.arrival ((LL.vals arrival-row.the_type arrival-laws.the_laws) h.arrival)) ×
+          (was_clock : Is clock-row.the_row h.clock ((LL.vals clock-row.the_type clock-laws.the_laws) h.clock)) × (m : ℕ) ×
+          (w_m : Val) × (e_m : m ≡ length x₁₀.now) × (Is usize m (w_m ∷ []))
 
       abbrev Has₂ : (ℕ → ℕ) → Known₂ → List (Item 𝓤) → List (Item 𝓤)
       Has₂ p past Γ = ‵ (part_at settings-row.the_row full_share h.settings b (o + 0))
@@ -535,62 +535,62 @@ module _ {M : Type 1} {𝓤 : Ura M} (𝓛 : Logic 𝓤) (at_mem : Memory → SP
         prf =
             qed 𝓛 (Has₂ p past Γ) ∵ exec ! C Λ (En p) (behind 1 (code.function).body) (at_ret (En p) Post) $
             cell_out ! full_share settings-row.the_row (LL.vals settings-row.the_type settings-laws.the_laws)
-            (LL.tells settings-row.the_type settings-laws.the_laws) h.settings b (o + 0) (λ was-settings.
+            (LL.tells settings-row.the_type settings-laws.the_laws) h.settings b (o + 0) (λ was_settings.
             assigns ! {v = (only ((LL.vals settings-row.the_type settings-laws.the_laws) h.settings))}
-            (of_opd ! (load ! (place-settings ! (look ! 12 refl)) (look_raw ! 0 refl))) (from ! (stop !))
+            (of_opd ! (load ! (place_settings ! (look ! 12 refl)) (look_raw ! 0 refl))) (from ! (stop !))
             (init ! 10 refl ((LL.lawful settings-row.the_type settings-laws.the_laws 𝓛).typed h.settings
-            ((only ((LL.vals settings-row.the_type settings-laws.the_laws) h.settings)) ∷ []) was-settings).0) $
+            ((only ((LL.vals settings-row.the_type settings-laws.the_laws) h.settings)) ∷ []) was_settings).0) $
             cell_in ! full_share settings-row.the_row (LL.makes settings-row.the_type settings-laws.the_plain 𝓛) h.settings b (o + 0)
-            (only ((LL.vals settings-row.the_type settings-laws.the_laws) h.settings)) was-settings $ move ! (1 ∷ []) $
+            (only ((LL.vals settings-row.the_type settings-laws.the_laws) h.settings)) was_settings $ move ! (1 ∷ []) $
             cell_out ! full_share flight-row.the_row (LL.vals flight-row.the_type flight-laws.the_laws)
-            (LL.tells flight-row.the_type flight-laws.the_laws) h.flight b (o + 16) (λ was-flight.
+            (LL.tells flight-row.the_type flight-laws.the_laws) h.flight b (o + 16) (λ was_flight.
             assigns ! {v = (only ((LL.vals flight-row.the_type flight-laws.the_laws) h.flight))}
-            (of_opd ! (load ! (place-flight ! (look ! 12 refl)) (look_raw ! 0 refl))) (from ! (stop !))
+            (of_opd ! (load ! (place_flight ! (look ! 12 refl)) (look_raw ! 0 refl))) (from ! (stop !))
             (init ! 9 refl ((LL.lawful flight-row.the_type flight-laws.the_laws 𝓛).typed h.flight
-            ((only ((LL.vals flight-row.the_type flight-laws.the_laws) h.flight)) ∷ []) was-flight).0) $
+            ((only ((LL.vals flight-row.the_type flight-laws.the_laws) h.flight)) ∷ []) was_flight).0) $
             cell_in ! full_share flight-row.the_row (LL.makes flight-row.the_type flight-laws.the_plain 𝓛) h.flight b (o + 16)
-            (only ((LL.vals flight-row.the_type flight-laws.the_laws) h.flight)) was-flight $ move ! (2 ∷ []) $
+            (only ((LL.vals flight-row.the_type flight-laws.the_laws) h.flight)) was_flight $ move ! (2 ∷ []) $
             cell_out ! full_share arrival-row.the_row (LL.vals arrival-row.the_type arrival-laws.the_laws)
-            (LL.tells arrival-row.the_type arrival-laws.the_laws) h.arrival b (o + 72) (λ was-arrival.
+            (LL.tells arrival-row.the_type arrival-laws.the_laws) h.arrival b (o + 72) (λ was_arrival.
             assigns ! {v = (only ((LL.vals arrival-row.the_type arrival-laws.the_laws) h.arrival))}
-            (of_opd ! (load ! (place-arrival ! (look ! 12 refl)) (look_raw ! 0 refl))) (from ! (stop !))
+            (of_opd ! (load ! (place_arrival ! (look ! 12 refl)) (look_raw ! 0 refl))) (from ! (stop !))
             (init ! 8 refl ((LL.lawful arrival-row.the_type arrival-laws.the_laws 𝓛).typed h.arrival
-            ((only ((LL.vals arrival-row.the_type arrival-laws.the_laws) h.arrival)) ∷ []) was-arrival).0) $
+            ((only ((LL.vals arrival-row.the_type arrival-laws.the_laws) h.arrival)) ∷ []) was_arrival).0) $
             cell_in ! full_share arrival-row.the_row (LL.makes arrival-row.the_type arrival-laws.the_plain 𝓛) h.arrival b (o + 72)
-            (only ((LL.vals arrival-row.the_type arrival-laws.the_laws) h.arrival)) was-arrival $ move ! (3 ∷ []) $
+            (only ((LL.vals arrival-row.the_type arrival-laws.the_laws) h.arrival)) was_arrival $ move ! (3 ∷ []) $
             cell_out ! full_share clock-row.the_row (LL.vals clock-row.the_type clock-laws.the_laws)
-            (LL.tells clock-row.the_type clock-laws.the_laws) h.clock b (o + 104) (λ was-clock.
+            (LL.tells clock-row.the_type clock-laws.the_laws) h.clock b (o + 104) (λ was_clock.
             assigns ! {v = (only ((LL.vals clock-row.the_type clock-laws.the_laws) h.clock))}
-            (of_opd ! (load ! (place-clock ! (look ! 12 refl)) (look_raw ! 0 refl))) (from ! (stop !))
+            (of_opd ! (load ! (place_clock ! (look ! 12 refl)) (look_raw ! 0 refl))) (from ! (stop !))
             (init ! 7 refl ((LL.lawful clock-row.the_type clock-laws.the_laws 𝓛).typed h.clock
-            ((only ((LL.vals clock-row.the_type clock-laws.the_laws) h.clock)) ∷ []) was-clock).0) $
+            ((only ((LL.vals clock-row.the_type clock-laws.the_laws) h.clock)) ∷ []) was_clock).0) $
             cell_in ! full_share clock-row.the_row (LL.makes clock-row.the_type clock-laws.the_plain 𝓛) h.clock b (o + 104)
-            (only ((LL.vals clock-row.the_type clock-laws.the_laws) h.clock)) was-clock $ move ! (4 ∷ 5 ∷ []) $ join ! $
-            calls-fn ! fm table-len.ended (table-len.clauses 𝓛 at_mem run) known.1 (to-table-len)
+            (only ((LL.vals clock-row.the_type clock-laws.the_laws) h.clock)) was_clock $ move ! (4 ∷ 5 ∷ []) $ join ! $
+            calls_fn ! fm table-len.ended (table-len.clauses 𝓛 at_mem run) known.1 (to_table_len)
             (λ m ws-m. m ≡ length x₁₀.now) (‵ (flft κ₃ q₃) ⊛ ‵ Own₁₀)
-            (asks-table-len) (λ m ws-m. id⊢ 𝓤 _)
+            (asks_table_len) (λ m ws-m. id⊢ 𝓤 _)
             (and_then ! (load ! (from ! (stop !)) (look ! 10 refl)) (no_more !))
-            (λ m w-m ws-m e-m is_m. land ! (from ! (stop !)) (init ! 6 refl ((uint_Lawful 𝓛 w64).typed m _ is_m).0) $
+            (λ m w_m ws-m e_m is_m. land ! (from ! (stop !)) (init ! 6 refl ((uint_Lawful 𝓛 w64).typed m _ is_m).0) $
             spread 𝓛 (‵ (flft κ₃ q₃)) (‵ ftrue ∷ []) (id⊢ 𝓤 _) $ move ! (2 ∷ []) $ spread 𝓛 (‵ ftrue) (‵ ftrue ∷ []) (id⊢ 𝓤 _) $
             move ! (3 ∷ 1 ∷ 0 ∷ []) $ group ! 3 $ drop ! $
             -- [tok10; F:clock; F:arrival; F:flight; F:settings; the locals]
-            same ! (on (was-settings, was-flight, was-arrival, was-clock, m, w-m, e-m, is_m)))))));
+            same ! (on (was_settings, was_flight, was_arrival, was_clock, m, w_m, e_m, is_m)))))));
       }
 
       -- part 3: what it knows, what it tells; what it has, and leaves
       abbrev Known₃ : Type 0
-      Known₃ = (c : Settings) × (w-c : Val) × (is_c : Is settings-row.the_row c (w-c ∷ [])) ×
-          (was-settings : Is settings-row.the_row h.settings ((LL.vals settings-row.the_type settings-laws.the_laws) h.settings)) ×
-          (was-flight : Is flight-row.the_row h.flight ((LL.vals flight-row.the_type flight-laws.the_laws) h.flight)) ×
-          (was-arrival : Is arrival-row.the_row h.arrival ((LL.vals arrival-row.the_type arrival-laws.the_laws) h.arrival)) ×
-          (was-clock : Is clock-row.the_row h.clock ((LL.vals clock-row.the_type clock-laws.the_laws) h.clock)) × (m : ℕ) ×
-          (w-m : Val) × (Is usize m (w-m ∷ []))
+      Known₃ = (c : Settings) × (w_c : Val) × (is_c : Is settings-row.the_row c (w_c ∷ [])) ×
+          (was_settings : Is settings-row.the_row h.settings ((LL.vals settings-row.the_type settings-laws.the_laws) h.settings)) ×
+          (was_flight : Is flight-row.the_row h.flight ((LL.vals flight-row.the_type flight-laws.the_laws) h.flight)) ×
+          (was_arrival : Is arrival-row.the_row h.arrival ((LL.vals arrival-row.the_type arrival-laws.the_laws) h.arrival)) ×
+          (was_clock : Is clock-row.the_row h.clock ((LL.vals clock-row.the_type clock-laws.the_laws) h.clock)) × (m : ℕ) ×
+          (w_m : Val) × (Is usize m (w_m ∷ []))
 
       abbrev New₃ : Known₃ → Type 0
-      New₃ past = (a : Opened) × (w-a : Val) × (e-a : (x : Arrays)
-          → OpenCore (opensWith past.0 (lentLengths past.7 x₈.now x₉.now x₁₁.now))
+      New₃ past = (a : Opened) × (w_a : Val) × (e_a : (x : Arrays)
+          → OpenCore (opens_with past.0 (lent_lengths past.7 x₈.now x₉.now x₁₁.now))
           (link_of h.settings h.flight h.arrival h.clock x) a.answer
-          (link_of a.settings a.flight a.arrival a.clock x)) × (Is opened-row.the_row a (w-a ∷ []))
+          (link_of a.settings a.flight a.arrival a.clock x)) × (Is opened-row.the_row a (w_a ∷ []))
 
       abbrev Has₃ : (ℕ → ℕ) → Known₃ → List (Item 𝓤) → List (Item 𝓤)
       Has₃ p past Γ = ‵ (fat full_share (ty_int w64) (p 18) 0 (past.8))
@@ -623,16 +623,16 @@ module _ {M : Type 1} {𝓤 : Ura M} (𝓛 : Logic 𝓤) (at_mem : Memory → SP
         prf =
             qed 𝓛 (Has₃ p past Γ) ∵ exec ! C Λ (En p) (behind 6 (code.function).body) (at_ret (En p) Post) $
             move ! (6 ∷ 9 ∷ 7 ∷ 10 ∷ 8 ∷ 11 ∷ []) $ group ! 6 $
-            calls-fn ! fm core.ended (core.clauses 𝓛 at_mem run) known.2
-            (to-core past.0 past.1 h.settings (only ((LL.vals settings-row.the_type settings-laws.the_laws) h.settings))
+            calls_fn ! fm core.ended (core.clauses 𝓛 at_mem run) known.2
+            (to_core past.0 past.1 h.settings (only ((LL.vals settings-row.the_type settings-laws.the_laws) h.settings))
             h.flight (only ((LL.vals flight-row.the_type flight-laws.the_laws) h.flight)) h.arrival
             (only ((LL.vals arrival-row.the_type arrival-laws.the_laws) h.arrival)) h.clock
             (only ((LL.vals clock-row.the_type clock-laws.the_laws) h.clock)) past.7 past.8)
-            (λ a ws-a. (x : Arrays) → OpenCore (opensWith past.0 (lentLengths past.7 x₈.now x₉.now x₁₁.now))
+            (λ a ws-a. (x : Arrays) → OpenCore (opens_with past.0 (lent_lengths past.7 x₈.now x₉.now x₁₁.now))
             (link_of h.settings h.flight h.arrival h.clock x) a.answer
             (link_of a.settings a.flight a.arrival a.clock x))
             (‵ (flft κ₁ q₁) ⊛ ‵ Own₈ ⊛ ‵ (flft κ₂ q₂) ⊛ ‵ Own₉ ⊛ ‵ (flft κ₄ q₄) ⊛ ‵ Own₁₁)
-            (asks-core past.0 past.1 past.2 h.settings
+            (asks_core past.0 past.1 past.2 h.settings
             (only ((LL.vals settings-row.the_type settings-laws.the_laws) h.settings)) past.3 h.flight
             (only ((LL.vals flight-row.the_type flight-laws.the_laws) h.flight)) past.4 h.arrival
             (only ((LL.vals arrival-row.the_type arrival-laws.the_laws) h.arrival)) past.5 h.clock
@@ -645,21 +645,21 @@ module _ {M : Type 1} {𝓤 : Ura M} (𝓛 : Logic 𝓤) (at_mem : Memory → SP
             (and_then ! (load ! (from ! (stop !)) (look ! 1 refl))
             (and_then ! (load ! (from ! (stop !)) (look ! 10 refl))
             (and_then ! (load ! (from ! (stop !)) (look ! 9 refl)) (and_then ! (load ! (from ! (stop !)) (look ! 8 refl)) (no_more !))))))))))
-            (λ a w-a ws-a e-a is-a. land ! (from ! (stop !))
-            (init ! 8 refl ((LL.lawful opened-row.the_type opened-laws.the_laws 𝓛).typed a (w-a ∷ []) is-a).0) $
+            (λ a w_a ws-a e_a is_a. land ! (from ! (stop !))
+            (init ! 8 refl ((LL.lawful opened-row.the_type opened-laws.the_laws 𝓛).typed a (w_a ∷ []) is_a).0) $
             spread 𝓛 (‵ (flft κ₁ q₁)) (‵ (flft κ₂ q₂) ∷ ‵ (flft κ₄ q₄) ∷ ‵ ftrue ∷ []) (id⊢ 𝓤 _) $ move ! (4 ∷ []) $
             spread 𝓛 (‵ ftrue) (‵ ftrue ∷ ‵ ftrue ∷ ‵ ftrue ∷ ‵ ftrue ∷ ‵ ftrue ∷ ‵ ftrue ∷ ‵ ftrue ∷ ‵ ftrue ∷ ‵ ftrue
             ∷ []) (id⊢ 𝓤 _) $ move ! (13 ∷ 9 ∷ 0 ∷ 1 ∷ 2 ∷ 3 ∷ 4 ∷ 5 ∷ 6 ∷ 7 ∷ 8 ∷ []) $ group ! 11 $ drop ! $
             -- [tok8; tok9; tok11; the locals]
-            same ! (on (a, w-a, e-a, is-a)));
+            same ! (on (a, w_a, e_a, is_a)));
       }
 
       -- part 4: what it knows, what it tells; what it has, and leaves
       abbrev Known₄ : Type 0
-      Known₄ = (a : Opened) × (w-a : Val) × (Is opened-row.the_row a (w-a ∷ []))
+      Known₄ = (a : Opened) × (w_a : Val) × (Is opened-row.the_row a (w_a ∷ []))
 
       abbrev New₄ : Known₄ → Type 0
-      New₄ past = (ks : Settings) × (w-ks : Val) × (e-ks : ks ≡ past.0.settings) × (Is settings-row.the_row ks (w-ks ∷ []))
+      New₄ past = (ks : Settings) × (w_ks : Val) × (e_ks : ks ≡ past.0.settings) × (Is settings-row.the_row ks (w_ks ∷ []))
 
       abbrev Has₄ : (ℕ → ℕ) → Known₄ → List (Item 𝓤) → List (Item 𝓤)
       Has₄ p past Γ = ‵ (fat full_share opened-laws.mir (p 19) 0 (past.1)) ∷ ‵ (froom settings-laws.mir (p 20) 0) ∷ Γ
@@ -674,24 +674,24 @@ module _ {M : Type 1} {𝓤 : Ura M} (𝓛 : Logic 𝓤) (at_mem : Memory → SP
       part₄ {Γ = Γ} t p past on = record {
         prf =
             qed 𝓛 (Has₄ p past Γ) ∵ exec ! C Λ (En p) (behind 7 (code.function).body) (at_ret (En p) Post) $
-            nothing ! $ calls-fn ! fm opened-settings.ended (opened-settings.clauses 𝓛 at_mem run) known.3
+            nothing ! $ calls_fn ! fm opened-settings.ended (opened-settings.clauses 𝓛 at_mem run) known.3
             ((tt, tt, tt, (past.0, tt), (past.1 ∷ [], tt)), tt) (λ ks _. ks ≡ past.0.settings)
             (‵ ftrue) (plainly 𝓛 (opened-row.the_row ∷ []) ((LL.makes opened-row.the_type opened-laws.the_plain 𝓛), tt)
             (past.0, tt) (past.1 ∷ [], tt) (past.2, tt)) (λ ks _. id⊢ 𝓤 _)
             (and_then ! (load ! (from ! (stop !)) (look ! 1 refl)) (no_more !))
-            (λ ks w-ks _ e-ks is-ks. drop ! $ drop ! $
-            land ! (from ! (stop !)) (init ! 1 refl ((LL.lawful settings-row.the_type settings-laws.the_laws 𝓛).typed ks (w-ks ∷ [])
+            (λ ks w_ks _ e_ks is-ks. drop ! $ drop ! $
+            land ! (from ! (stop !)) (init ! 1 refl ((LL.lawful settings-row.the_type settings-laws.the_laws 𝓛).typed ks (w_ks ∷ [])
             is-ks).0) $
-            same ! (on (ks, w-ks, e-ks, is-ks)));
+            same ! (on (ks, w_ks, e_ks, is-ks)));
       }
 
       -- part 5: what it knows, what it tells; what it has, and leaves
       abbrev Known₅ : Type 0
-      Known₅ = (a : Opened) × (w-a : Val) × (is-a : Is opened-row.the_row a (w-a ∷ [])) × (ks : Settings) × (w-ks : Val) ×
-          (Is settings-row.the_row ks (w-ks ∷ []))
+      Known₅ = (a : Opened) × (w_a : Val) × (is_a : Is opened-row.the_row a (w_a ∷ [])) × (ks : Settings) × (w_ks : Val) ×
+          (Is settings-row.the_row ks (w_ks ∷ []))
 
       abbrev New₅ : Known₅ → Type 0
-      New₅ past = (kf : Flight) × (w-kf : Val) × (e-kf : kf ≡ past.0.flight) × (Is flight-row.the_row kf (w-kf ∷ []))
+      New₅ past = (kf : Flight) × (w_kf : Val) × (e_kf : kf ≡ past.0.flight) × (Is flight-row.the_row kf (w_kf ∷ []))
 
       abbrev Has₅ : (ℕ → ℕ) → Known₅ → List (Item 𝓤) → List (Item 𝓤)
       Has₅ p past Γ = ‵ (fat full_share opened-laws.mir (p 19) 0 (past.1)) ∷ ‵ (fat full_share settings-laws.mir (p 20) 0 (past.4))
@@ -712,28 +712,28 @@ module _ {M : Type 1} {𝓤 : Ura M} (𝓛 : Logic 𝓤) (at_mem : Memory → SP
             qed 𝓛 (Has₅ p past Γ) ∵ exec ! C Λ (En p) (behind 8 (code.function).body) (at_ret (En p) Post) $
             move ! (2 ∷ []) $ cell_out ! full_share settings-row.the_row (LL.vals settings-row.the_type settings-laws.the_laws)
             (LL.tells settings-row.the_type settings-laws.the_laws) h.settings b (o + 0)
-            (λ was-settings'. assigns ! (of_opd ! (load ! (from ! (stop !)) (look ! 2 refl))) (place-settings ! (look ! 3 refl))
+            (λ was-settings'. assigns ! (of_opd ! (load ! (from ! (stop !)) (look ! 2 refl))) (place_settings ! (look ! 3 refl))
             (store_raw ! 0 refl ((LL.lawful settings-row.the_type settings-laws.the_laws 𝓛).typed past.3 (past.4 ∷ [])
             past.5).0) $ cell_in ! full_share settings-row.the_row (LL.makes settings-row.the_type settings-laws.the_plain 𝓛)
             past.3 b (o + 0) past.4 past.5 $ nothing ! $
-            calls-fn ! fm opened-flight.ended (opened-flight.clauses 𝓛 at_mem run) known.4
+            calls_fn ! fm opened-flight.ended (opened-flight.clauses 𝓛 at_mem run) known.4
             ((tt, tt, tt, (past.0, tt), (past.1 ∷ [], tt)), tt) (λ kf _. kf ≡ past.0.flight)
             (‵ ftrue) (plainly 𝓛 (opened-row.the_row ∷ []) ((LL.makes opened-row.the_type opened-laws.the_plain 𝓛), tt)
             (past.0, tt) (past.1 ∷ [], tt) (past.2, tt)) (λ kf _. id⊢ 𝓤 _)
             (and_then ! (load ! (from ! (stop !)) (look ! 2 refl)) (no_more !))
-            (λ kf w-kf _ e-kf is-kf. drop ! $ drop ! $
-            land ! (from ! (stop !)) (init ! 4 refl ((LL.lawful flight-row.the_type flight-laws.the_laws 𝓛).typed kf (w-kf ∷ []) is-kf
+            (λ kf w_kf _ e_kf is-kf. drop ! $ drop ! $
+            land ! (from ! (stop !)) (init ! 4 refl ((LL.lawful flight-row.the_type flight-laws.the_laws 𝓛).typed kf (w_kf ∷ []) is-kf
             ).0) $
-            same ! (on (kf, w-kf, e-kf, is-kf))));
+            same ! (on (kf, w_kf, e_kf, is-kf))));
       }
 
       -- part 6: what it knows, what it tells; what it has, and leaves
       abbrev Known₆ : Type 0
-      Known₆ = (a : Opened) × (w-a : Val) × (is-a : Is opened-row.the_row a (w-a ∷ [])) × (kf : Flight) × (w-kf : Val) ×
-          (Is flight-row.the_row kf (w-kf ∷ []))
+      Known₆ = (a : Opened) × (w_a : Val) × (is_a : Is opened-row.the_row a (w_a ∷ [])) × (kf : Flight) × (w_kf : Val) ×
+          (Is flight-row.the_row kf (w_kf ∷ []))
 
       abbrev New₆ : Known₆ → Type 0
-      New₆ past = (ka : Arrival) × (w-ka : Val) × (e-ka : ka ≡ past.0.arrival) × (Is arrival-row.the_row ka (w-ka ∷ []))
+      New₆ past = (ka : Arrival) × (w_ka : Val) × (e_ka : ka ≡ past.0.arrival) × (Is arrival-row.the_row ka (w_ka ∷ []))
 
       abbrev Has₆ : (ℕ → ℕ) → Known₆ → List (Item 𝓤) → List (Item 𝓤)
       Has₆ p past Γ = ‵ (fat full_share opened-laws.mir (p 19) 0 (past.1))
@@ -755,28 +755,28 @@ module _ {M : Type 1} {𝓤 : Ura M} (𝓛 : Logic 𝓤) (at_mem : Memory → SP
             qed 𝓛 (Has₆ p past Γ) ∵ exec ! C Λ (En p) (behind 10 (code.function).body) (at_ret (En p) Post) $
             move ! (3 ∷ []) $ cell_out ! full_share flight-row.the_row (LL.vals flight-row.the_type flight-laws.the_laws)
             (LL.tells flight-row.the_type flight-laws.the_laws) h.flight b (o + 16)
-            (λ was-flight'. assigns ! (of_opd ! (load ! (from ! (stop !)) (look ! 3 refl))) (place-flight ! (look ! 2 refl))
+            (λ was-flight'. assigns ! (of_opd ! (load ! (from ! (stop !)) (look ! 3 refl))) (place_flight ! (look ! 2 refl))
             (store_raw ! 0 refl ((LL.lawful flight-row.the_type flight-laws.the_laws 𝓛).typed past.3 (past.4 ∷ []) past.5
             ).0) $ cell_in ! full_share flight-row.the_row (LL.makes flight-row.the_type flight-laws.the_plain 𝓛) past.3 b (o + 16)
             past.4 past.5 $ nothing ! $
-            calls-fn ! fm opened-arrival.ended (opened-arrival.clauses 𝓛 at_mem run) known.5
+            calls_fn ! fm opened-arrival.ended (opened-arrival.clauses 𝓛 at_mem run) known.5
             ((tt, tt, tt, (past.0, tt), (past.1 ∷ [], tt)), tt) (λ ka _. ka ≡ past.0.arrival)
             (‵ ftrue) (plainly 𝓛 (opened-row.the_row ∷ []) ((LL.makes opened-row.the_type opened-laws.the_plain 𝓛), tt)
             (past.0, tt) (past.1 ∷ [], tt) (past.2, tt)) (λ ka _. id⊢ 𝓤 _)
             (and_then ! (load ! (from ! (stop !)) (look ! 2 refl)) (no_more !))
-            (λ ka w-ka _ e-ka is-ka. drop ! $ drop ! $
-            land ! (from ! (stop !)) (init ! 4 refl ((LL.lawful arrival-row.the_type arrival-laws.the_laws 𝓛).typed ka (w-ka ∷ []) is-ka
+            (λ ka w_ka _ e_ka is-ka. drop ! $ drop ! $
+            land ! (from ! (stop !)) (init ! 4 refl ((LL.lawful arrival-row.the_type arrival-laws.the_laws 𝓛).typed ka (w_ka ∷ []) is-ka
             ).0) $
-            same ! (on (ka, w-ka, e-ka, is-ka))));
+            same ! (on (ka, w_ka, e_ka, is-ka))));
       }
 
       -- part 7: what it knows, what it tells; what it has, and leaves
       abbrev Known₇ : Type 0
-      Known₇ = (a : Opened) × (w-a : Val) × (is-a : Is opened-row.the_row a (w-a ∷ [])) × (ka : Arrival) × (w-ka : Val) ×
-          (Is arrival-row.the_row ka (w-ka ∷ []))
+      Known₇ = (a : Opened) × (w_a : Val) × (is_a : Is opened-row.the_row a (w_a ∷ [])) × (ka : Arrival) × (w_ka : Val) ×
+          (Is arrival-row.the_row ka (w_ka ∷ []))
 
       abbrev New₇ : Known₇ → Type 0
-      New₇ past = (kc : Clock) × (w-kc : Val) × (e-kc : kc ≡ past.0.clock) × (Is clock-row.the_row kc (w-kc ∷ []))
+      New₇ past = (kc : Clock) × (w_kc : Val) × (e_kc : kc ≡ past.0.clock) × (Is clock-row.the_row kc (w_kc ∷ []))
 
       abbrev Has₇ : (ℕ → ℕ) → Known₇ → List (Item 𝓤) → List (Item 𝓤)
       Has₇ p past Γ = ‵ (fat full_share opened-laws.mir (p 19) 0 (past.1))
@@ -798,28 +798,28 @@ module _ {M : Type 1} {𝓤 : Ura M} (𝓛 : Logic 𝓤) (at_mem : Memory → SP
             qed 𝓛 (Has₇ p past Γ) ∵ exec ! C Λ (En p) (behind 12 (code.function).body) (at_ret (En p) Post) $
             move ! (3 ∷ []) $ cell_out ! full_share arrival-row.the_row (LL.vals arrival-row.the_type arrival-laws.the_laws)
             (LL.tells arrival-row.the_type arrival-laws.the_laws) h.arrival b (o + 72)
-            (λ was-arrival'. assigns ! (of_opd ! (load ! (from ! (stop !)) (look ! 3 refl))) (place-arrival ! (look ! 2 refl))
+            (λ was-arrival'. assigns ! (of_opd ! (load ! (from ! (stop !)) (look ! 3 refl))) (place_arrival ! (look ! 2 refl))
             (store_raw ! 0 refl ((LL.lawful arrival-row.the_type arrival-laws.the_laws 𝓛).typed past.3 (past.4 ∷ []) past.5
             ).0) $ cell_in ! full_share arrival-row.the_row (LL.makes arrival-row.the_type arrival-laws.the_plain 𝓛) past.3 b
             (o + 72) past.4 past.5 $ nothing ! $
-            calls-fn ! fm opened-clock.ended (opened-clock.clauses 𝓛 at_mem run) known.6
+            calls_fn ! fm opened-clock.ended (opened-clock.clauses 𝓛 at_mem run) known.6
             ((tt, tt, tt, (past.0, tt), (past.1 ∷ [], tt)), tt) (λ kc _. kc ≡ past.0.clock)
             (‵ ftrue) (plainly 𝓛 (opened-row.the_row ∷ []) ((LL.makes opened-row.the_type opened-laws.the_plain 𝓛), tt)
             (past.0, tt) (past.1 ∷ [], tt) (past.2, tt)) (λ kc _. id⊢ 𝓤 _)
             (and_then ! (load ! (from ! (stop !)) (look ! 2 refl)) (no_more !))
-            (λ kc w-kc _ e-kc is-kc. drop ! $ drop ! $
-            land ! (from ! (stop !)) (init ! 4 refl ((LL.lawful clock-row.the_type clock-laws.the_laws 𝓛).typed kc (w-kc ∷ []) is-kc
+            (λ kc w_kc _ e_kc is-kc. drop ! $ drop ! $
+            land ! (from ! (stop !)) (init ! 4 refl ((LL.lawful clock-row.the_type clock-laws.the_laws 𝓛).typed kc (w_kc ∷ []) is-kc
             ).0) $
-            same ! (on (kc, w-kc, e-kc, is-kc))));
+            same ! (on (kc, w_kc, e_kc, is-kc))));
       }
 
       -- part 8: what it knows, what it tells; what it has, and leaves
       abbrev Known₈ : Type 0
-      Known₈ = (a : Opened) × (w-a : Val) × (is-a : Is opened-row.the_row a (w-a ∷ [])) × (ks : Settings) × (kf : Flight) × (ka : Arrival) ×
-          (kc : Clock) × (w-kc : Val) × (Is clock-row.the_row kc (w-kc ∷ []))
+      Known₈ = (a : Opened) × (w_a : Val) × (is_a : Is opened-row.the_row a (w_a ∷ [])) × (ks : Settings) × (kf : Flight) × (ka : Arrival) ×
+          (kc : Clock) × (w_kc : Val) × (Is clock-row.the_row kc (w_kc ∷ []))
 
       abbrev New₈ : Known₈ → Type 0
-      New₈ past = (r : ℤ) × (w-r : Val) × (e-r : r ≡ answerCode past.0.answer) × (Is i32 r (w-r ∷ []))
+      New₈ past = (r : ℤ) × (w_r : Val) × (e_r : r ≡ answer_code past.0.answer) × (Is i32 r (w_r ∷ []))
 
       abbrev Has₈ : (ℕ → ℕ) → Known₈ → List (Item 𝓤) → List (Item 𝓤)
       Has₈ p past Γ = ‵ (part_at arrival-row.the_row full_share past.5 b (o + 72)) ∷ ‵ (fat full_share opened-laws.mir (p 19) 0 (past.1))
@@ -833,7 +833,7 @@ module _ {M : Type 1} {𝓤 : Ura M} (𝓛 : Logic 𝓤) (at_mem : Memory → SP
           ∷ raw (Back 𝓛 full_share b o) ∷ ‵ (Open b o γ κ₀ q₀ h) ∷ ‵ (froom (ty_int w32) (p 0) 0) ∷ Γ
 
       abbrev Leaves₈ : (ℕ → ℕ) → (past : Known₈) → New₈ past → List (Item 𝓤) → List (Item 𝓤)
-      Leaves₈ p past new Γ = ‵ (link-own κ₀ b o γ
+      Leaves₈ p past new Γ = ‵ (link_own κ₀ b o γ
           (record {
             settings = past.3;
             flight = past.4;
@@ -857,23 +857,23 @@ module _ {M : Type 1} {𝓤 : Ura M} (𝓛 : Logic 𝓤) (at_mem : Memory → SP
             qed 𝓛 (Has₈ p past Γ) ∵ exec ! C Λ (En p) (behind 14 (code.function).body) (at_ret (En p) Post) $
             move ! (6 ∷ []) $ cell_out ! full_share clock-row.the_row (LL.vals clock-row.the_type clock-laws.the_laws)
             (LL.tells clock-row.the_type clock-laws.the_laws) h.clock b (o + 104)
-            (λ was-clock'. assigns ! (of_opd ! (load ! (from ! (stop !)) (look ! 4 refl))) (place-clock ! (look ! 3 refl))
+            (λ was-clock'. assigns ! (of_opd ! (load ! (from ! (stop !)) (look ! 4 refl))) (place_clock ! (look ! 3 refl))
             (store_raw ! 0 refl ((LL.lawful clock-row.the_type clock-laws.the_laws 𝓛).typed past.6 (past.7 ∷ []) past.8
             ).0) $ cell_in ! full_share clock-row.the_row (LL.makes clock-row.the_type clock-laws.the_plain 𝓛) past.6 b (o + 104)
             past.7 past.8 $ move ! (12 ∷ []) $
-            tells-length ! full_share u32 128 h.queued b (o + 124)
-            (λ end-queued. move ! (12 ∷ []) $
-            tells-length ! full_share u32 32 h.outstanding b (o + 636)
-            (λ end-outstanding. move ! (12 ∷ []) $
-            tells-length ! full_share u8 32 h.transmissions b (o + 764)
-            (λ end-transmissions. move ! (12 ∷ []) $
-            tells-length ! full_share u32 128 h.ready b (o + 796)
-            (λ end-ready. move ! (12 ∷ []) $
-            tells-length ! full_share u32 128 h.waiting b (o + 1308)
-            (λ end-waiting. move ! (12 ∷ []) $
-            tells-length ! full_share u32 128 h.waiting_numbers b (o + 1820)
+            tells_length ! full_share u32 128 h.queued b (o + 124)
+            (λ end_queued. move ! (12 ∷ []) $
+            tells_length ! full_share u32 32 h.outstanding b (o + 636)
+            (λ end_outstanding. move ! (12 ∷ []) $
+            tells_length ! full_share u8 32 h.transmissions b (o + 764)
+            (λ end_transmissions. move ! (12 ∷ []) $
+            tells_length ! full_share u32 128 h.ready b (o + 796)
+            (λ end_ready. move ! (12 ∷ []) $
+            tells_length ! full_share u32 128 h.waiting b (o + 1308)
+            (λ end_waiting. move ! (12 ∷ []) $
+            tells_length ! full_share u32 128 h.waiting_numbers b (o + 1820)
             (λ end-waiting-numbers. move ! (12 ∷ 11 ∷ 7 ∷ 6 ∷ 5 ∷ 4 ∷ 3 ∷ 2 ∷ 1 ∷ 0 ∷ 13 ∷ 14 ∷ []) $
-            closes-link b o γ ! tt h (record {
+            closes_link b o γ ! tt h (record {
               settings = past.3;
               flight = past.4;
               arrival = past.5;
@@ -887,13 +887,13 @@ module _ {M : Type 1} {𝓤 : Ura M} (𝓛 : Logic 𝓤) (at_mem : Memory → SP
               waiting_numbers = h.waiting_numbers;
             }) $
             -- [own0; tok0; the locals]
-            nothing ! $ calls-fn ! fm code_of_lem.ended (code_of_lem.clauses 𝓛 at_mem run) known.7
-            ((tt, tt, tt, (past.0, tt), (past.1 ∷ [], tt)), tt) (λ r _. r ≡ answerCode past.0.answer)
+            nothing ! $ calls_fn ! fm code_of_lem.ended (code_of_lem.clauses 𝓛 at_mem run) known.7
+            ((tt, tt, tt, (past.0, tt), (past.1 ∷ [], tt)), tt) (λ r _. r ≡ answer_code past.0.answer)
             (‵ ftrue) (plainly 𝓛 (opened-row.the_row ∷ []) ((LL.makes opened-row.the_type opened-laws.the_plain 𝓛), tt)
             (past.0, tt) (past.1 ∷ [], tt) (past.2, tt)) (λ r _. id⊢ 𝓤 _)
             (and_then ! (load ! (from ! (stop !)) (look ! 3 refl)) (no_more !))
-            (λ r w-r _ e-r is-r. drop ! $ drop ! $ land ! (from ! (stop !)) (init ! 5 refl ((sint_Lawful 𝓛 w32).typed r _ is-r).0) $
-            same ! (on (r, w-r, e-r, is-r))))))))));
+            (λ r w_r _ e_r is_r. drop ! $ drop ! $ land ! (from ! (stop !)) (init ! 5 refl ((sint_Lawful 𝓛 w32).typed r _ is_r).0) $
+            same ! (on (r, w_r, e_r, is_r))))))))));
       }
 
       walk : ent 𝓤 (on_entry 𝓛 f.signature (κ₀, (κ₁, (κ₂, (κ₃, (κ₄, tt))))) (q₀, (q₁, (q₂, (q₃, (q₄, tt))))) x at)
@@ -917,7 +917,7 @@ module _ {M : Type 1} {𝓤 : Ura M} (𝓛 : Logic 𝓤) (at_mem : Memory → SP
           pass1 ! (init ! 14 refl (tt, (tt, (record { fits = room₉.0 }, tt)))) $
           pass1 ! (init ! 13 refl (tt, (tt, (record { fits = room₁₀.0 }, tt)))) $
           pass1 ! (init ! 12 refl (tt, (tt, (record { fits = room₁₁.0 }, tt)))) $ pass0 ! $
-          move ! (26 ∷ []) $ spread 𝓛 (‵ ((MutRef (named 0) κ₀ L).own_val (ref-at b o γ h) (vptr b o ∷ [])))
+          move ! (26 ∷ []) $ spread 𝓛 (‵ ((MutRef (named 0) κ₀ L).own_val (ref_at b o γ h) (vptr b o ∷ [])))
           (‵ (u32.own_val (x₁) (v₁ ∷ [])) ∷ ‵ (u32.own_val (x₂) (v₂ ∷ [])) ∷ ‵ (u32.own_val (x₃) (v₃ ∷ []))
           ∷ ‵ (u32.own_val (x₄) (v₄ ∷ [])) ∷ ‵ (u32.own_val (x₅) (v₅ ∷ [])) ∷ ‵ (u32.own_val (x₆) (v₆ ∷ []))
           ∷ ‵ (u32.own_val (x₇) (v₇ ∷ [])) ∷ ‵ ((ShrSlice (named 1) κ₁ u8).own_val (x₈) (s₈ ∷ []))
@@ -976,14 +976,14 @@ module _ {M : Type 1} {𝓤 : Ura M} (𝓛 : Logic 𝓤) (at_mem : Memory → SP
                 h.waiting;
             waiting_numbers = h.waiting_numbers;
           })
-          (told answerCode _ new₃.0.answer new₈.2
+          (told answer_code _ new₃.0.answer new₈.2
           (rw (new₄.2, new₅.2, new₆.2, new₇.2)
           (subst (λ (s : Settings). OpenPromise s h (parts_of x₈.now x₉.now x₁₀.now x₁₁.now) new₃.0.answer
-          (link_of new₃.0.settings new₃.0.flight new₃.0.arrival new₃.0.clock (arraysOf h))
+          (link_of new₃.0.settings new₃.0.flight new₃.0.arrival new₃.0.clock (arrays_of h))
           (parts_of x₈.now x₉.now x₁₀.now x₁₁.now)) new₁.2
-          (open-promised new₁.0 h (parts_of x₈.now x₉.now x₁₀.now x₁₁.now) new₃.0.answer
-          (link_of new₃.0.settings new₃.0.flight new₃.0.arrival new₃.0.clock (arraysOf h)) new₂.4 new₂.6
-          (new₃.2 (arraysOf h)))))) new₈.3))))))))))
+          (open_promised new₁.0 h (parts_of x₈.now x₉.now x₁₀.now x₁₁.now) new₃.0.answer
+          (link_of new₃.0.settings new₃.0.flight new₃.0.arrival new₃.0.clock (arrays_of h)) new₂.4 new₂.6
+          (new₃.2 (arrays_of h)))))) new₈.3))))))))))
 
   f_meets : (𝓣 : Tables 𝓤 H) → Known 𝓣.C
       → Meets 𝓛 f.signature (WpFn 𝓤 H 𝓣.C 𝓣.Λ code.function) (f.spec 𝓛 at_mem run)

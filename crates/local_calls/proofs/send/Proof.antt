@@ -142,32 +142,32 @@ use Rattle.records.proofs.Walk.{
   fat,
   exec,
 }
-use Rattle.records.proofs.Call.{calls-fn, plainly}
+use Rattle.records.proofs.Call.{calls_fn, plainly}
 use Rattle.records.proofs.Shared.{LentShared, lends_shared, shared_back}
 use Rattle.records.proofs.Rows.{R}
-use Rattle.lending.proofs.Fields.{ref-at, lend-mut, back-mut, lend-shr, back_shr, cell_out, cell_in, tells-length, lend-whole, back_whole}
-use Rattle.lending.proofs.Locals.{envAt, allocates, frees_all, holds, empty}
+use Rattle.lending.proofs.Fields.{ref_at, lend_mut, back_mut, lend_shr, back_shr, cell_out, cell_in, tells_length, lend_whole, back_whole}
+use Rattle.lending.proofs.Locals.{env_at, allocates, frees_all, holds, empty}
 use Rattle.lending.proofs.Parts.{behind, spread, same}
 use Rattle.lending.proofs.Block.{
   L,
   Open,
   Back,
-  link-own,
-  link-shr,
-  opens-link,
-  closes-link,
-  looks-link,
-  shuts-link,
-  place-settings,
-  place-flight,
-  place-arrival,
-  place-clock,
-  place-queued,
-  place-outstanding,
-  place-transmissions,
-  place-ready,
-  place-waiting,
-  place-waiting-numbers,
+  link_own,
+  link_shr,
+  opens_link,
+  closes_link,
+  looks_link,
+  shuts_link,
+  place_settings,
+  place_flight,
+  place_arrival,
+  place_clock,
+  place_queued,
+  place_outstanding,
+  place_transmissions,
+  place_ready,
+  place_waiting,
+  place_waiting_numbers,
 }
 use Rattle.control.specs.declared.Link.{Link}
 use Rattle.timing.specs.declared.Record.{Record}
@@ -211,20 +211,20 @@ use Rattle.send_core.proofs.Submitted.TheLaws as submitted-laws
 use mathlib.Core.Bool.{Bool}
 use denote.Plain.{Boolean, bool_Lawful, bool_Makes}
 use lib.ListN.{take}
-use Rattle.protocol.specs.Protocol.{sendSlots}
-use Rattle.records.specs.Tables.{slotsIn, gathered, padded}
+use Rattle.protocol.specs.Protocol.{send_slots}
+use Rattle.records.specs.Tables.{slots_in, gathered, padded}
 use Rattle.control.specs.Views.{Whole, arrays, link_of}
-use Rattle.marks.specs.Marks.{none, noneToSend}
-use Rattle.checking.specs.Tests.{flightFits}
+use Rattle.marks.specs.Marks.{none, none_to_send}
+use Rattle.checking.specs.Tests.{flight_fits}
 use Rattle.checking.specs.Verdicts.{Flies, ByFlown, Sound, SendMarked}
 use Rattle.promises.specs.Parts.{parts_of}
 use Rattle.promises.specs.Promises.{SendPromise}
 use Rattle.send_core.specs.Sending.{SendLeaves}
-use Rattle.codes.specs.Codes.{answerCode}
+use Rattle.codes.specs.Codes.{answer_code}
 use Rattle.codes.specs.Gives.{Gives}
 use Rattle.codes.proofs.Told.{told}
-use Rattle.from_cores.proofs.Gathered.{gathers, padded-whole}
-use Rattle.from_cores.proofs.Sending.{send-promised}
+use Rattle.from_cores.proofs.Gathered.{gathers, padded_whole}
+use Rattle.from_cores.proofs.Sending.{send_promised}
 use Rattle.marks.specs.contracts.none_to_send as send-marks-of
 use Rattle.marks.proofs.none_to_send.Symbol as send-marks-of-def
 use Rattle.marks.proofs.none_to_send.Met as send-marks-of-thm
@@ -279,7 +279,7 @@ module _ {M : Type 1} {𝓤 : Ura M} (𝓛 : Logic 𝓤) (at_mem : Memory → SP
       (room₃ : Room R (length x₃.now)) (x₄ : MutBor (List ℕ)) (room₄ : Room u32 (length x₄.now)) (x₅ : MutBor (List ℕ))
       (room₅ : Room u8 (length x₅.now)) where
     abbrev x : MutBor Link × (MutBor (List ℕ) × (MutBor (List ℕ) × (MutBor (List Record) × (MutBor (List ℕ) × (MutBor (List ℕ) × Unit {0})))))
-    x = (ref-at b o γ h, (x₁, (x₂, (x₃, (x₄, (x₅, tt))))))
+    x = (ref_at b o γ h, (x₁, (x₂, (x₃, (x₄, (x₅, tt))))))
 
     abbrev s₁ : Val
     s₁ = slice_val x₁.ref_ptr (length x₁.now)
@@ -319,63 +319,63 @@ module _ {M : Type 1} {𝓤 : Ura M} (𝓛 : Logic 𝓤) (at_mem : Memory → SP
         (((κ₀, (κ₁, (κ₂, (κ₃, (κ₄, (κ₅, tt)))))), (q₀, (q₁, (q₂, (q₃, (q₄, (q₅, tt)))))), tt, x, at), tt)
 
     -- what check is called at, and that what it asks is had
-    abbrev to-check : (α-block : ℕ) (δ-block : GName) (f-block : Link) (p-sends : ℕ) (α-sends : ℕ) (δ-sends : GName) (f-sends : (List ℕ))
-        (p-receives : ℕ) (α-receives : ℕ) (δ-receives : GName) (f-receives : (List ℕ))
+    abbrev to_check : (α_block : ℕ) (δ_block : GName) (f_block : Link) (p_sends : ℕ) (α_sends : ℕ) (δ_sends : GName) (f_sends : (List ℕ))
+        (p_receives : ℕ) (α_receives : ℕ) (δ_receives : GName) (f_receives : (List ℕ))
         → (triple_of 𝓛 check.signature (check.spec 𝓛 at_mem run)).Ghost
-    to-check α-block δ-block f-block p-sends α-sends δ-sends f-sends p-receives α-receives δ-receives f-receives = (
+    to_check α_block δ_block f_block p_sends α_sends δ_sends f_sends p_receives α_receives δ_receives f_receives = (
       (
-        ((α-block ∷ []), ((α-sends ∷ []), ((α-receives ∷ []), tt))),
+        ((α_block ∷ []), ((α_sends ∷ []), ((α_receives ∷ []), tt))),
         (full_share, (full_share, (full_share, tt))),
         tt,
-        ((ref-at b o δ-block f-block), ((ref-at p-sends 0 δ-sends f-sends), ((ref-at p-receives 0 δ-receives f-receives), tt))),
-        ((vptr b o) ∷ [], ((vptr p-sends 0) ∷ [], ((vptr p-receives 0) ∷ [], tt))),
+        ((ref_at b o δ_block f_block), ((ref_at p_sends 0 δ_sends f_sends), ((ref_at p_receives 0 δ_receives f_receives), tt))),
+        ((vptr b o) ∷ [], ((vptr p_sends 0) ∷ [], ((vptr p_receives 0) ∷ [], tt))),
       ),
       tt,
     )
 
-    asks-check : (α-block : ℕ) (δ-block : GName) (f-block : Link) (p-sends : ℕ) (α-sends : ℕ) (δ-sends : GName) (f-sends : (List ℕ))
-        (p-receives : ℕ) (α-receives : ℕ) (δ-receives : GName) (f-receives : (List ℕ)) → ((f-sends ≡ noneToSend) × (f-receives ≡ none))
-        → ent 𝓤 (⋆ 𝓛 (‵ (flft (α-block ∷ []) full_share)
-        ∷ ‵ ((ShrRef (named 0) (α-block ∷ []) L).own_val (ref-at b o δ-block f-block) ((vptr b o) ∷ [])) ∷ ‵ (flft (α-sends ∷ []) full_share)
-        ∷ ‵ ((MutRef (named 0) (α-sends ∷ []) (Array u8 128)).own_val (ref-at p-sends 0 δ-sends f-sends) ((vptr p-sends 0) ∷ []))
-        ∷ ‵ (flft (α-receives ∷ []) full_share)
-        ∷ ‵ ((MutRef (named 0) (α-receives ∷ []) (Array u8 256)).own_val (ref-at p-receives 0 δ-receives f-receives) ((vptr p-receives 0) ∷ []))
+    asks_check : (α_block : ℕ) (δ_block : GName) (f_block : Link) (p_sends : ℕ) (α_sends : ℕ) (δ_sends : GName) (f_sends : (List ℕ))
+        (p_receives : ℕ) (α_receives : ℕ) (δ_receives : GName) (f_receives : (List ℕ)) → ((f_sends ≡ none_to_send) × (f_receives ≡ none))
+        → ent 𝓤 (⋆ 𝓛 (‵ (flft (α_block ∷ []) full_share)
+        ∷ ‵ ((ShrRef (named 0) (α_block ∷ []) L).own_val (ref_at b o δ_block f_block) ((vptr b o) ∷ [])) ∷ ‵ (flft (α_sends ∷ []) full_share)
+        ∷ ‵ ((MutRef (named 0) (α_sends ∷ []) (Array u8 128)).own_val (ref_at p_sends 0 δ_sends f_sends) ((vptr p_sends 0) ∷ []))
+        ∷ ‵ (flft (α_receives ∷ []) full_share)
+        ∷ ‵ ((MutRef (named 0) (α_receives ∷ []) (Array u8 256)).own_val (ref_at p_receives 0 δ_receives f_receives) ((vptr p_receives 0) ∷ []))
         ∷ [])) ((triple_of 𝓛 check.signature (check.spec 𝓛 at_mem run)).pre
-        (to-check α-block δ-block f-block p-sends α-sends δ-sends f-sends p-receives α-receives δ-receives f-receives))
-    asks-check α-block δ-block f-block p-sends α-sends δ-sends f-sends p-receives α-receives δ-receives f-receives req =
-        qed 𝓛 (‵ (flft (α-block ∷ []) full_share) ∷ ‵ ((ShrRef (named 0) (α-block ∷ []) L).own_val (ref-at b o δ-block f-block) ((vptr b o) ∷ []))
-        ∷ ‵ (flft (α-sends ∷ []) full_share)
-        ∷ ‵ ((MutRef (named 0) (α-sends ∷ []) (Array u8 128)).own_val (ref-at p-sends 0 δ-sends f-sends) ((vptr p-sends 0) ∷ []))
-        ∷ ‵ (flft (α-receives ∷ []) full_share)
-        ∷ ‵ ((MutRef (named 0) (α-receives ∷ []) (Array u8 256)).own_val (ref-at p-receives 0 δ-receives f-receives)
-        ((vptr p-receives 0) ∷ [])) ∷ []) ∵ says ! req $ nothing ! $ move ! (5 ∷ 0 ∷ []) $ join ! $ move ! (3 ∷ 0 ∷ []) $ join ! $
+        (to_check α_block δ_block f_block p_sends α_sends δ_sends f_sends p_receives α_receives δ_receives f_receives))
+    asks_check α_block δ_block f_block p_sends α_sends δ_sends f_sends p_receives α_receives δ_receives f_receives req =
+        qed 𝓛 (‵ (flft (α_block ∷ []) full_share) ∷ ‵ ((ShrRef (named 0) (α_block ∷ []) L).own_val (ref_at b o δ_block f_block) ((vptr b o) ∷ []))
+        ∷ ‵ (flft (α_sends ∷ []) full_share)
+        ∷ ‵ ((MutRef (named 0) (α_sends ∷ []) (Array u8 128)).own_val (ref_at p_sends 0 δ_sends f_sends) ((vptr p_sends 0) ∷ []))
+        ∷ ‵ (flft (α_receives ∷ []) full_share)
+        ∷ ‵ ((MutRef (named 0) (α_receives ∷ []) (Array u8 256)).own_val (ref_at p_receives 0 δ_receives f_receives)
+        ((vptr p_receives 0) ∷ [])) ∷ []) ∵ says ! req $ nothing ! $ move ! (5 ∷ 0 ∷ []) $ join ! $ move ! (3 ∷ 0 ∷ []) $ join ! $
         move ! (1 ∷ 0 ∷ []) $ join ! $ nothing ! $ move ! (4 ∷ 0 ∷ []) $ fjoin ! $ move ! (3 ∷ 0 ∷ []) $ fjoin ! $ move ! (2 ∷ 0 ∷ []) $
         fjoin ! $ move ! (1 ∷ 0 ∷ []) $ done !
 
     -- what fit is called at, and that what it asks is had
-    abbrev to-fit : (α-outstanding : ℕ) (δ-outstanding : GName) (f-outstanding : (List ℕ)) (y₀ : Settings) (u₀ : Val) (y₁ : Flight)
+    abbrev to_fit : (α_outstanding : ℕ) (δ_outstanding : GName) (f_outstanding : (List ℕ)) (y₀ : Settings) (u₀ : Val) (y₁ : Flight)
         (u₁ : Val) → (triple_of 𝓛 fit.signature (fit.spec 𝓛 at_mem run)).Ghost
-    to-fit α-outstanding δ-outstanding f-outstanding y₀ u₀ y₁ u₁ = (
+    to_fit α_outstanding δ_outstanding f_outstanding y₀ u₀ y₁ u₁ = (
       (
-        (κ₃, ((α-outstanding ∷ []), tt)),
+        (κ₃, ((α_outstanding ∷ []), tt)),
         (q₃, (full_share, tt)),
         tt,
-        (x₃, ((ref-at b (o + 636) δ-outstanding f-outstanding), (y₀, (y₁, tt)))),
+        (x₃, ((ref_at b (o + 636) δ_outstanding f_outstanding), (y₀, (y₁, tt)))),
         (s₃ ∷ [], ((vptr b (o + 636)) ∷ [], (u₀ ∷ [], (u₁ ∷ [], tt)))),
       ),
       tt,
     )
 
-    asks-fit : (α-outstanding : ℕ) (δ-outstanding : GName) (f-outstanding : (List ℕ)) → (y₀ : Settings) (u₀ : Val)
+    asks_fit : (α_outstanding : ℕ) (δ_outstanding : GName) (f_outstanding : (List ℕ)) → (y₀ : Settings) (u₀ : Val)
         → Is settings-row.the_row y₀ (u₀ ∷ []) → (y₁ : Flight) (u₁ : Val) → Is flight-row.the_row y₁ (u₁ ∷ [])
-        → (length f-outstanding ≡ 32) → ent 𝓤 (⋆ 𝓛
-        (‵ (flft κ₃ q₃) ∷ ‵ Own₃ ∷ ‵ (flft (α-outstanding ∷ []) full_share)
-        ∷ ‵ ((ShrRef (named 0) (α-outstanding ∷ []) (Array u32 32)).own_val (ref-at b (o + 636) δ-outstanding f-outstanding)
+        → (length f_outstanding ≡ 32) → ent 𝓤 (⋆ 𝓛
+        (‵ (flft κ₃ q₃) ∷ ‵ Own₃ ∷ ‵ (flft (α_outstanding ∷ []) full_share)
+        ∷ ‵ ((ShrRef (named 0) (α_outstanding ∷ []) (Array u32 32)).own_val (ref_at b (o + 636) δ_outstanding f_outstanding)
         ((vptr b (o + 636)) ∷ [])) ∷ [])) ((triple_of 𝓛 fit.signature (fit.spec 𝓛 at_mem run)).pre
-        (to-fit α-outstanding δ-outstanding f-outstanding y₀ u₀ y₁ u₁))
-    asks-fit α-outstanding δ-outstanding f-outstanding y₀ u₀ is₀ y₁ u₁ is₁ req =
-        qed 𝓛 (‵ (flft κ₃ q₃) ∷ ‵ Own₃ ∷ ‵ (flft (α-outstanding ∷ []) full_share)
-        ∷ ‵ ((ShrRef (named 0) (α-outstanding ∷ []) (Array u32 32)).own_val (ref-at b (o + 636) δ-outstanding f-outstanding)
+        (to_fit α_outstanding δ_outstanding f_outstanding y₀ u₀ y₁ u₁))
+    asks_fit α_outstanding δ_outstanding f_outstanding y₀ u₀ is₀ y₁ u₁ is₁ req =
+        qed 𝓛 (‵ (flft κ₃ q₃) ∷ ‵ Own₃ ∷ ‵ (flft (α_outstanding ∷ []) full_share)
+        ∷ ‵ ((ShrRef (named 0) (α_outstanding ∷ []) (Array u32 32)).own_val (ref_at b (o + 636) δ_outstanding f_outstanding)
         ((vptr b (o + 636)) ∷ [])) ∷ []) ∵ says ! req $ nothing ! $ move ! (3 ∷ 0 ∷ []) $ join ! $ move ! (1 ∷ 0 ∷ []) $ join ! $
         nothing ! $ owned ! flight-row.the_row (Is flight-row.the_row) (LL.makes flight-row.the_type flight-laws.the_plain 𝓛) y₁ _
         is₁ $ fjoin ! $ owned ! settings-row.the_row (Is settings-row.the_row)
@@ -383,35 +383,35 @@ module _ {M : Type 1} {𝓤 : Ura M} (𝓛 : Logic 𝓤) (at_mem : Memory → SP
         move ! (2 ∷ 0 ∷ []) $ fjoin ! $ move ! (1 ∷ 0 ∷ []) $ done !
 
     -- what table-len is called at, and that what it asks is had
-    abbrev to-table-len : (triple_of 𝓛 table-len.signature (table-len.spec 𝓛 at_mem run)).Ghost
-    to-table-len = (((κ₃, tt), (q₃, tt), tt, (x₃, tt), (s₃ ∷ [], tt)), tt)
+    abbrev to_table_len : (triple_of 𝓛 table-len.signature (table-len.spec 𝓛 at_mem run)).Ghost
+    to_table_len = (((κ₃, tt), (q₃, tt), tt, (x₃, tt), (s₃ ∷ [], tt)), tt)
 
-    asks-table-len : ent 𝓤 (⋆ 𝓛 (‵ (flft κ₃ q₃) ∷ ‵ Own₃ ∷ []))
-        ((triple_of 𝓛 table-len.signature (table-len.spec 𝓛 at_mem run)).pre (to-table-len))
-    asks-table-len =
+    asks_table_len : ent 𝓤 (⋆ 𝓛 (‵ (flft κ₃ q₃) ∷ ‵ Own₃ ∷ []))
+        ((triple_of 𝓛 table-len.signature (table-len.spec 𝓛 at_mem run)).pre (to_table_len))
+    asks_table_len =
         qed 𝓛 (‵ (flft κ₃ q₃) ∷ ‵ Own₃ ∷ []) ∵ nothing ! $ move ! (1 ∷ 0 ∷ []) $ join ! $ nothing ! $ move ! (2 ∷ 0 ∷ []) $ fjoin ! $
         move ! (1 ∷ 0 ∷ []) $ join ! $ nothing ! $ move ! (1 ∷ 0 ∷ []) $ done !
 
     -- what core is called at, and that what it asks is had
-    abbrev to-core : (α-queued : ℕ) (δ-queued : GName) (f-queued : (List ℕ)) (α-outstanding : ℕ) (δ-outstanding : GName)
-        (f-outstanding : (List ℕ)) (α-transmissions : ℕ) (δ-transmissions : GName) (f-transmissions : (List ℕ)) (α-ready : ℕ)
-        (δ-ready : GName) (f-ready : (List ℕ)) (α-waiting : ℕ) (δ-waiting : GName) (f-waiting : (List ℕ)) (α-waiting-numbers : ℕ)
-        (δ-waiting-numbers : GName) (f-waiting-numbers : (List ℕ)) (p-sends : ℕ) (α-sends : ℕ) (δ-sends : GName) (f-sends : (List ℕ))
+    abbrev to_core : (α_queued : ℕ) (δ_queued : GName) (f_queued : (List ℕ)) (α_outstanding : ℕ) (δ_outstanding : GName)
+        (f_outstanding : (List ℕ)) (α_transmissions : ℕ) (δ_transmissions : GName) (f_transmissions : (List ℕ)) (α_ready : ℕ)
+        (δ_ready : GName) (f_ready : (List ℕ)) (α_waiting : ℕ) (δ_waiting : GName) (f_waiting : (List ℕ)) (α_waiting_numbers : ℕ)
+        (δ_waiting_numbers : GName) (f_waiting_numbers : (List ℕ)) (p_sends : ℕ) (α_sends : ℕ) (δ_sends : GName) (f_sends : (List ℕ))
         (y₀ : Settings) (u₀ : Val) (y₁ : Flight) (u₁ : Val) (y₂ : Arrival) (u₂ : Val) (y₃ : Clock) (u₃ : Val) (y₄ : Bool) (u₄ : Val)
         (y₅ : Bool) (u₅ : Val) (y₆ : ℕ) (u₆ : Val) → (triple_of 𝓛 core.signature (core.spec 𝓛 at_mem run)).Ghost
-    to-core α-queued δ-queued f-queued α-outstanding δ-outstanding f-outstanding α-transmissions δ-transmissions f-transmissions α-ready
-        δ-ready f-ready α-waiting δ-waiting f-waiting α-waiting-numbers δ-waiting-numbers f-waiting-numbers p-sends α-sends δ-sends f-sends
+    to_core α_queued δ_queued f_queued α_outstanding δ_outstanding f_outstanding α_transmissions δ_transmissions f_transmissions α_ready
+        δ_ready f_ready α_waiting δ_waiting f_waiting α_waiting_numbers δ_waiting_numbers f_waiting_numbers p_sends α_sends δ_sends f_sends
         y₀ u₀ y₁ u₁ y₂ u₂ y₃ u₃ y₄ u₄ y₅ u₅ y₆ u₆ = (
           (
             (
-              (α-queued ∷ []),
+              (α_queued ∷ []),
               (
-                (α-outstanding ∷ []),
+                (α_outstanding ∷ []),
                 (
-                  (α-transmissions ∷ []),
+                  (α_transmissions ∷ []),
                   (
-                    (α-ready ∷ []),
-                    ((α-waiting ∷ []), ((α-waiting-numbers ∷ []), ((α-sends ∷ []), (κ₁, (κ₂, (κ₄, (κ₅, tt))))))),
+                    (α_ready ∷ []),
+                    ((α_waiting ∷ []), ((α_waiting_numbers ∷ []), ((α_sends ∷ []), (κ₁, (κ₂, (κ₄, (κ₅, tt))))))),
                   ),
                 ),
               ),
@@ -433,18 +433,18 @@ module _ {M : Type 1} {𝓤 : Ura M} (𝓛 : Logic 𝓤) (at_mem : Memory → SP
                         (
                           y₆,
                           (
-                            (ref-at b (o + 124) δ-queued f-queued),
+                            (ref_at b (o + 124) δ_queued f_queued),
                             (
-                              (ref-at b (o + 636) δ-outstanding f-outstanding),
+                              (ref_at b (o + 636) δ_outstanding f_outstanding),
                               (
-                                (ref-at b (o + 764) δ-transmissions f-transmissions),
+                                (ref_at b (o + 764) δ_transmissions f_transmissions),
                                 (
-                                  (ref-at b (o + 796) δ-ready f-ready),
+                                  (ref_at b (o + 796) δ_ready f_ready),
                                   (
-                                    (ref-at b (o + 1308) δ-waiting f-waiting),
+                                    (ref_at b (o + 1308) δ_waiting f_waiting),
                                     (
-                                      (ref-at b (o + 1820) δ-waiting-numbers f-waiting-numbers),
-                                      ((ref-at p-sends 0 δ-sends f-sends), (x₁, (x₂, (x₄, (x₅, tt))))),
+                                      (ref_at b (o + 1820) δ_waiting_numbers f_waiting_numbers),
+                                      ((ref_at p_sends 0 δ_sends f_sends), (x₁, (x₂, (x₄, (x₅, tt))))),
                                     ),
                                   ),
                                 ),
@@ -482,7 +482,7 @@ module _ {M : Type 1} {𝓤 : Ura M} (𝓛 : Logic 𝓤) (at_mem : Memory → SP
                                   (vptr b (o + 796)) ∷ [],
                                   (
                                     (vptr b (o + 1308)) ∷ [],
-                                    ((vptr b (o + 1820)) ∷ [], ((vptr p-sends 0) ∷ [], (s₁ ∷ [], (s₂ ∷ [], (s₄ ∷ [], (s₅ ∷ [], tt)))))),
+                                    ((vptr b (o + 1820)) ∷ [], ((vptr p_sends 0) ∷ [], (s₁ ∷ [], (s₂ ∷ [], (s₄ ∷ [], (s₅ ∷ [], tt)))))),
                                   ),
                                 ),
                               ),
@@ -499,53 +499,53 @@ module _ {M : Type 1} {𝓤 : Ura M} (𝓛 : Logic 𝓤) (at_mem : Memory → SP
           tt,
         )
 
-    asks-core : (α-queued : ℕ) (δ-queued : GName) (f-queued : (List ℕ)) (α-outstanding : ℕ) (δ-outstanding : GName)
-        (f-outstanding : (List ℕ)) (α-transmissions : ℕ) (δ-transmissions : GName) (f-transmissions : (List ℕ)) (α-ready : ℕ)
-        (δ-ready : GName) (f-ready : (List ℕ)) (α-waiting : ℕ) (δ-waiting : GName) (f-waiting : (List ℕ)) (α-waiting-numbers : ℕ)
-        (δ-waiting-numbers : GName) (f-waiting-numbers : (List ℕ)) (p-sends : ℕ) (α-sends : ℕ) (δ-sends : GName) (f-sends : (List ℕ))
+    asks_core : (α_queued : ℕ) (δ_queued : GName) (f_queued : (List ℕ)) (α_outstanding : ℕ) (δ_outstanding : GName)
+        (f_outstanding : (List ℕ)) (α_transmissions : ℕ) (δ_transmissions : GName) (f_transmissions : (List ℕ)) (α_ready : ℕ)
+        (δ_ready : GName) (f_ready : (List ℕ)) (α_waiting : ℕ) (δ_waiting : GName) (f_waiting : (List ℕ)) (α_waiting_numbers : ℕ)
+        (δ_waiting_numbers : GName) (f_waiting_numbers : (List ℕ)) (p_sends : ℕ) (α_sends : ℕ) (δ_sends : GName) (f_sends : (List ℕ))
         → (y₀ : Settings) (u₀ : Val) → Is settings-row.the_row y₀ (u₀ ∷ []) → (y₁ : Flight) (u₁ : Val)
         → Is flight-row.the_row y₁ (u₁ ∷ []) → (y₂ : Arrival) (u₂ : Val) → Is arrival-row.the_row y₂ (u₂ ∷ [])
         → (y₃ : Clock) (u₃ : Val) → Is clock-row.the_row y₃ (u₃ ∷ []) → (y₄ : Bool) (u₄ : Val) → Is Boolean y₄ (u₄ ∷ [])
         → (y₅ : Bool) (u₅ : Val) → Is Boolean y₅ (u₅ ∷ []) → (y₆ : ℕ) (u₆ : Val) → Is usize y₆ (u₆ ∷ [])
-        → (Whole (arrays f-queued f-outstanding f-transmissions f-ready f-waiting f-waiting-numbers) × Flies
-        (link_of y₀ y₁ y₂ y₃ (arrays f-queued f-outstanding f-transmissions f-ready f-waiting f-waiting-numbers)) y₅ × SendMarked
-        (link_of y₀ y₁ y₂ y₃ (arrays f-queued f-outstanding f-transmissions f-ready f-waiting f-waiting-numbers)) f-sends y₄)
-        → ent 𝓤 (⋆ 𝓛 (‵ (flft (α-queued ∷ []) full_share)
-        ∷ ‵ ((MutRef (named 0) (α-queued ∷ []) (Array u32 128)).own_val (ref-at b (o + 124) δ-queued f-queued) ((vptr b (o + 124)) ∷ []))
-        ∷ ‵ (flft (α-outstanding ∷ []) full_share)
-        ∷ ‵ ((ShrRef (named 0) (α-outstanding ∷ []) (Array u32 32)).own_val (ref-at b (o + 636) δ-outstanding f-outstanding)
-        ((vptr b (o + 636)) ∷ [])) ∷ ‵ (flft (α-transmissions ∷ []) full_share)
-        ∷ ‵ ((ShrRef (named 0) (α-transmissions ∷ []) (Array u8 32)).own_val (ref-at b (o + 764) δ-transmissions f-transmissions)
-        ((vptr b (o + 764)) ∷ [])) ∷ ‵ (flft (α-ready ∷ []) full_share)
-        ∷ ‵ ((ShrRef (named 0) (α-ready ∷ []) (Array u32 128)).own_val (ref-at b (o + 796) δ-ready f-ready) ((vptr b (o + 796)) ∷ []))
-        ∷ ‵ (flft (α-waiting ∷ []) full_share)
-        ∷ ‵ ((ShrRef (named 0) (α-waiting ∷ []) (Array u32 128)).own_val (ref-at b (o + 1308) δ-waiting f-waiting) ((vptr b (o + 1308)) ∷ []))
-        ∷ ‵ (flft (α-waiting-numbers ∷ []) full_share)
-        ∷ ‵ ((ShrRef (named 0) (α-waiting-numbers ∷ []) (Array u32 128)).own_val (ref-at b (o + 1820) δ-waiting-numbers f-waiting-numbers)
-        ((vptr b (o + 1820)) ∷ [])) ∷ ‵ (flft (α-sends ∷ []) full_share)
-        ∷ ‵ ((ShrRef (named 0) (α-sends ∷ []) (Array u8 128)).own_val (ref-at p-sends 0 δ-sends f-sends) ((vptr p-sends 0) ∷ []))
+        → (Whole (arrays f_queued f_outstanding f_transmissions f_ready f_waiting f_waiting_numbers) × Flies
+        (link_of y₀ y₁ y₂ y₃ (arrays f_queued f_outstanding f_transmissions f_ready f_waiting f_waiting_numbers)) y₅ × SendMarked
+        (link_of y₀ y₁ y₂ y₃ (arrays f_queued f_outstanding f_transmissions f_ready f_waiting f_waiting_numbers)) f_sends y₄)
+        → ent 𝓤 (⋆ 𝓛 (‵ (flft (α_queued ∷ []) full_share)
+        ∷ ‵ ((MutRef (named 0) (α_queued ∷ []) (Array u32 128)).own_val (ref_at b (o + 124) δ_queued f_queued) ((vptr b (o + 124)) ∷ []))
+        ∷ ‵ (flft (α_outstanding ∷ []) full_share)
+        ∷ ‵ ((ShrRef (named 0) (α_outstanding ∷ []) (Array u32 32)).own_val (ref_at b (o + 636) δ_outstanding f_outstanding)
+        ((vptr b (o + 636)) ∷ [])) ∷ ‵ (flft (α_transmissions ∷ []) full_share)
+        ∷ ‵ ((ShrRef (named 0) (α_transmissions ∷ []) (Array u8 32)).own_val (ref_at b (o + 764) δ_transmissions f_transmissions)
+        ((vptr b (o + 764)) ∷ [])) ∷ ‵ (flft (α_ready ∷ []) full_share)
+        ∷ ‵ ((ShrRef (named 0) (α_ready ∷ []) (Array u32 128)).own_val (ref_at b (o + 796) δ_ready f_ready) ((vptr b (o + 796)) ∷ []))
+        ∷ ‵ (flft (α_waiting ∷ []) full_share)
+        ∷ ‵ ((ShrRef (named 0) (α_waiting ∷ []) (Array u32 128)).own_val (ref_at b (o + 1308) δ_waiting f_waiting) ((vptr b (o + 1308)) ∷ []))
+        ∷ ‵ (flft (α_waiting_numbers ∷ []) full_share)
+        ∷ ‵ ((ShrRef (named 0) (α_waiting_numbers ∷ []) (Array u32 128)).own_val (ref_at b (o + 1820) δ_waiting_numbers f_waiting_numbers)
+        ((vptr b (o + 1820)) ∷ [])) ∷ ‵ (flft (α_sends ∷ []) full_share)
+        ∷ ‵ ((ShrRef (named 0) (α_sends ∷ []) (Array u8 128)).own_val (ref_at p_sends 0 δ_sends f_sends) ((vptr p_sends 0) ∷ []))
         ∷ ‵ (flft κ₁ q₁) ∷ ‵ Own₁ ∷ ‵ (flft κ₂ q₂) ∷ ‵ Own₂ ∷ ‵ (flft κ₄ q₄) ∷ ‵ Own₄ ∷ ‵ (flft κ₅ q₅)
         ∷ ‵ Own₅ ∷ [])) ((triple_of 𝓛 core.signature (core.spec 𝓛 at_mem run)).pre
-        (to-core α-queued δ-queued f-queued α-outstanding δ-outstanding f-outstanding α-transmissions δ-transmissions f-transmissions
-        α-ready δ-ready f-ready α-waiting δ-waiting f-waiting α-waiting-numbers δ-waiting-numbers f-waiting-numbers p-sends α-sends δ-sends
-        f-sends y₀ u₀ y₁ u₁ y₂ u₂ y₃ u₃ y₄ u₄ y₅ u₅ y₆ u₆))
-    asks-core α-queued δ-queued f-queued α-outstanding δ-outstanding f-outstanding α-transmissions δ-transmissions f-transmissions α-ready
-        δ-ready f-ready α-waiting δ-waiting f-waiting α-waiting-numbers δ-waiting-numbers f-waiting-numbers p-sends α-sends δ-sends f-sends
+        (to_core α_queued δ_queued f_queued α_outstanding δ_outstanding f_outstanding α_transmissions δ_transmissions f_transmissions
+        α_ready δ_ready f_ready α_waiting δ_waiting f_waiting α_waiting_numbers δ_waiting_numbers f_waiting_numbers p_sends α_sends δ_sends
+        f_sends y₀ u₀ y₁ u₁ y₂ u₂ y₃ u₃ y₄ u₄ y₅ u₅ y₆ u₆))
+    asks_core α_queued δ_queued f_queued α_outstanding δ_outstanding f_outstanding α_transmissions δ_transmissions f_transmissions α_ready
+        δ_ready f_ready α_waiting δ_waiting f_waiting α_waiting_numbers δ_waiting_numbers f_waiting_numbers p_sends α_sends δ_sends f_sends
         y₀ u₀ is₀ y₁ u₁ is₁ y₂ u₂ is₂ y₃ u₃ is₃ y₄ u₄ is₄ y₅ u₅ is₅ y₆ u₆ is₆ req =
-        qed 𝓛 (‵ (flft (α-queued ∷ []) full_share)
-        ∷ ‵ ((MutRef (named 0) (α-queued ∷ []) (Array u32 128)).own_val (ref-at b (o + 124) δ-queued f-queued) ((vptr b (o + 124)) ∷ []))
-        ∷ ‵ (flft (α-outstanding ∷ []) full_share)
-        ∷ ‵ ((ShrRef (named 0) (α-outstanding ∷ []) (Array u32 32)).own_val (ref-at b (o + 636) δ-outstanding f-outstanding)
-        ((vptr b (o + 636)) ∷ [])) ∷ ‵ (flft (α-transmissions ∷ []) full_share)
-        ∷ ‵ ((ShrRef (named 0) (α-transmissions ∷ []) (Array u8 32)).own_val (ref-at b (o + 764) δ-transmissions f-transmissions)
-        ((vptr b (o + 764)) ∷ [])) ∷ ‵ (flft (α-ready ∷ []) full_share)
-        ∷ ‵ ((ShrRef (named 0) (α-ready ∷ []) (Array u32 128)).own_val (ref-at b (o + 796) δ-ready f-ready) ((vptr b (o + 796)) ∷ []))
-        ∷ ‵ (flft (α-waiting ∷ []) full_share)
-        ∷ ‵ ((ShrRef (named 0) (α-waiting ∷ []) (Array u32 128)).own_val (ref-at b (o + 1308) δ-waiting f-waiting)
-        ((vptr b (o + 1308)) ∷ [])) ∷ ‵ (flft (α-waiting-numbers ∷ []) full_share)
-        ∷ ‵ ((ShrRef (named 0) (α-waiting-numbers ∷ []) (Array u32 128)).own_val (ref-at b (o + 1820) δ-waiting-numbers f-waiting-numbers)
-        ((vptr b (o + 1820)) ∷ [])) ∷ ‵ (flft (α-sends ∷ []) full_share)
-        ∷ ‵ ((ShrRef (named 0) (α-sends ∷ []) (Array u8 128)).own_val (ref-at p-sends 0 δ-sends f-sends) ((vptr p-sends 0) ∷ []))
+        qed 𝓛 (‵ (flft (α_queued ∷ []) full_share)
+        ∷ ‵ ((MutRef (named 0) (α_queued ∷ []) (Array u32 128)).own_val (ref_at b (o + 124) δ_queued f_queued) ((vptr b (o + 124)) ∷ []))
+        ∷ ‵ (flft (α_outstanding ∷ []) full_share)
+        ∷ ‵ ((ShrRef (named 0) (α_outstanding ∷ []) (Array u32 32)).own_val (ref_at b (o + 636) δ_outstanding f_outstanding)
+        ((vptr b (o + 636)) ∷ [])) ∷ ‵ (flft (α_transmissions ∷ []) full_share)
+        ∷ ‵ ((ShrRef (named 0) (α_transmissions ∷ []) (Array u8 32)).own_val (ref_at b (o + 764) δ_transmissions f_transmissions)
+        ((vptr b (o + 764)) ∷ [])) ∷ ‵ (flft (α_ready ∷ []) full_share)
+        ∷ ‵ ((ShrRef (named 0) (α_ready ∷ []) (Array u32 128)).own_val (ref_at b (o + 796) δ_ready f_ready) ((vptr b (o + 796)) ∷ []))
+        ∷ ‵ (flft (α_waiting ∷ []) full_share)
+        ∷ ‵ ((ShrRef (named 0) (α_waiting ∷ []) (Array u32 128)).own_val (ref_at b (o + 1308) δ_waiting f_waiting)
+        ((vptr b (o + 1308)) ∷ [])) ∷ ‵ (flft (α_waiting_numbers ∷ []) full_share)
+        ∷ ‵ ((ShrRef (named 0) (α_waiting_numbers ∷ []) (Array u32 128)).own_val (ref_at b (o + 1820) δ_waiting_numbers f_waiting_numbers)
+        ((vptr b (o + 1820)) ∷ [])) ∷ ‵ (flft (α_sends ∷ []) full_share)
+        ∷ ‵ ((ShrRef (named 0) (α_sends ∷ []) (Array u8 128)).own_val (ref_at p_sends 0 δ_sends f_sends) ((vptr p_sends 0) ∷ []))
         ∷ ‵ (flft κ₁ q₁) ∷ ‵ Own₁ ∷ ‵ (flft κ₂ q₂) ∷ ‵ Own₂ ∷ ‵ (flft κ₄ q₄) ∷ ‵ Own₄ ∷ ‵ (flft κ₅ q₅)
         ∷ ‵ Own₅ ∷ []) ∵ says ! req $ nothing ! $ move ! (21 ∷ 0 ∷ []) $ join ! $ move ! (19 ∷ 0 ∷ []) $ join ! $
         move ! (17 ∷ 0 ∷ []) $ join ! $ move ! (15 ∷ 0 ∷ []) $ join ! $ move ! (13 ∷ 0 ∷ []) $ join ! $ move ! (11 ∷ 0 ∷ []) $ join ! $
@@ -563,12 +563,12 @@ module _ {M : Type 1} {𝓤 : Ura M} (𝓛 : Logic 𝓤) (at_mem : Memory → SP
         (LL.makes settings-row.the_type settings-laws.the_plain 𝓛) y₀ _ is₀ $ fjoin ! $ move ! (1 ∷ 0 ∷ []) $ done !
 
     abbrev Had : (k : Link) (z₁ : List ℕ) → List (Item 𝓤)
-    Had k z₁ = ‵ (link-own κ₀ b o γ k) ∷ ‵ (flft κ₀ q₀) ∷ ‵ (finally u8 x₁.name z₁) ∷ ‵ (flft κ₁ q₁)
+    Had k z₁ = ‵ (link_own κ₀ b o γ k) ∷ ‵ (flft κ₀ q₀) ∷ ‵ (finally u8 x₁.name z₁) ∷ ‵ (flft κ₁ q₁)
         ∷ ‵ (flft κ₂ q₂) ∷ ‵ (flft κ₃ q₃) ∷ ‵ (flft κ₄ q₄) ∷ ‵ (flft κ₅ q₅) ∷ []
 
     -- what the contract says
     abbrev Said : (r : ℤ) (k : Link) (z₁ : List ℕ) → Type 0
-    Said r k z₁ = Gives answerCode (λ a. SendPromise x₅.now h (parts_of x₁.now x₂.now x₃.now x₄.now) a k
+    Said r k z₁ = Gives answer_code (λ a. SendPromise x₅.now h (parts_of x₁.now x₂.now x₃.now x₄.now) a k
         (parts_of z₁ x₂.now x₃.now x₄.now)) r
 
     exits : (r : ℤ) (w : Val) (k : Link) (z₁ : List ℕ) → Said r k z₁ → length z₁ ≡ length x₁.now → Is i32 r (w ∷ [])
@@ -586,14 +586,14 @@ module _ {M : Type 1} {𝓤 : Ura M} (𝓛 : Logic 𝓤) (at_mem : Memory → SP
     module _ (C : Calls 𝓤 H) (Λ : Loops 𝓤 H) (fm : FmC 𝓤 H 𝓛.laws C) (known : Known C) where
       -- where the locals lie
       abbrev En : (ℕ → ℕ) → Env 𝓤 H
-      En p = envAt (code.function).locals p
+      En p = env_at (code.function).locals p
 
       -- part 1: what it knows, what it tells; what it has, and leaves
       abbrev Known₁ : Type 0
       Known₁ = Unit {0}
 
       abbrev New₁ : Known₁ → Type 0
-      New₁ past = (sends : (List ℕ)) × (w-sends : Val) × (e-sends : sends ≡ noneToSend) × (Is (Array u8 128) sends (w-sends ∷ []))
+      New₁ past = (sends : (List ℕ)) × (w_sends : Val) × (e_sends : sends ≡ none_to_send) × (Is (Array u8 128) sends (w_sends ∷ []))
 
       abbrev Has₁ : (ℕ → ℕ) → Known₁ → List (Item 𝓤) → List (Item 𝓤)
       Has₁ p past Γ = ‵ (froom (ty_array (ty_int w8) 128) (p 18) 0) ∷ Γ
@@ -607,21 +607,21 @@ module _ {M : Type 1} {𝓤 : Ura M} (𝓛 : Logic 𝓤) (at_mem : Memory → SP
       part₁ {Γ = Γ} t p past on = record {
         prf =
             qed 𝓛 (Has₁ p past Γ) ∵ exec ! C Λ (En p) (behind 0 (code.function).body) (at_ret (En p) Post) $
-            nothing ! $ calls-fn ! fm send-marks-of.ended (send-marks-of.clauses 𝓛 at_mem run) known.0 ((tt, tt, tt, tt, tt), tt)
-            (λ sends _. sends ≡ noneToSend)
+            nothing ! $ calls_fn ! fm send-marks-of.ended (send-marks-of.clauses 𝓛 at_mem run) known.0 ((tt, tt, tt, tt, tt), tt)
+            (λ sends _. sends ≡ none_to_send)
             (‵ ftrue) (plainly 𝓛 ([]) tt tt tt tt) (λ sends _. id⊢ 𝓤 _)
-            (no_more !) (λ sends w-sends _ e-sends is-sends. drop ! $ drop ! $
-            land ! (from ! (stop !)) (init ! 0 refl (Array-Typed u8 (uint_Lawful 𝓛 w8).typed 128 sends (w-sends ∷ []) is-sends).0) $
-            same ! (on (sends, w-sends, e-sends, is-sends)));
+            (no_more !) (λ sends w_sends _ e_sends is_sends. drop ! $ drop ! $
+            land ! (from ! (stop !)) (init ! 0 refl (Array-Typed u8 (uint_Lawful 𝓛 w8).typed 128 sends (w_sends ∷ []) is_sends).0) $
+            same ! (on (sends, w_sends, e_sends, is_sends)));
       }
 
       -- part 2: what it knows, what it tells; what it has, and leaves
       abbrev Known₂ : Type 0
-      Known₂ = (sends : (List ℕ)) × (w-sends : Val) × (Is (Array u8 128) sends (w-sends ∷ []))
+      Known₂ = (sends : (List ℕ)) × (w_sends : Val) × (Is (Array u8 128) sends (w_sends ∷ []))
 
       abbrev New₂ : Known₂ → Type 0
-      New₂ past = (receives : (List ℕ)) × (w-receives : Val) × (e-receives : receives ≡ none) ×
-          (Is (Array u8 256) receives (w-receives ∷ []))
+      New₂ past = (receives : (List ℕ)) × (w_receives : Val) × (e_receives : receives ≡ none) ×
+          (Is (Array u8 256) receives (w_receives ∷ []))
 
       abbrev Has₂ : (ℕ → ℕ) → Known₂ → List (Item 𝓤) → List (Item 𝓤)
       Has₂ p past Γ = ‵ (fat full_share (ty_array (ty_int w8) 128) (p 18) 0 (past.1)) ∷ ‵ (froom (ty_array (ty_int w8) 256) (p 19) 0)
@@ -640,27 +640,27 @@ module _ {M : Type 1} {𝓤 : Ura M} (𝓛 : Logic 𝓤) (at_mem : Memory → SP
             qed 𝓛 (Has₂ p past Γ) ∵ exec ! C Λ (En p) (behind 1 (code.function).body) (at_ret (En p) Post) $
             assigns ! {v = past.1} (of_opd ! (load ! (from ! (stop !)) (look ! 0 refl))) (from ! (stop !))
             (init ! 2 refl (Array-Typed u8 (uint_Lawful 𝓛 w8).typed 128 past.0 (past.1 ∷ []) past.2).0) $
-            nothing ! $ calls-fn ! fm marks-of.ended (marks-of.clauses 𝓛 at_mem run) known.1 ((tt, tt, tt, tt, tt), tt)
+            nothing ! $ calls_fn ! fm marks-of.ended (marks-of.clauses 𝓛 at_mem run) known.1 ((tt, tt, tt, tt, tt), tt)
             (λ receives _. receives ≡ none)
             (‵ ftrue) (plainly 𝓛 ([]) tt tt tt tt) (λ receives _. id⊢ 𝓤 _)
-            (no_more !) (λ receives w-receives _ e-receives is-receives. drop ! $ drop ! $
-            land ! (from ! (stop !)) (init ! 1 refl (Array-Typed u8 (uint_Lawful 𝓛 w8).typed 256 receives (w-receives ∷ []) is-receives
+            (no_more !) (λ receives w_receives _ e_receives is-receives. drop ! $ drop ! $
+            land ! (from ! (stop !)) (init ! 1 refl (Array-Typed u8 (uint_Lawful 𝓛 w8).typed 256 receives (w_receives ∷ []) is-receives
             ).0) $
-            same ! (on (receives, w-receives, e-receives, is-receives)));
+            same ! (on (receives, w_receives, e_receives, is-receives)));
       }
 
       -- part 3: what it knows, what it tells; what it has, and leaves
       abbrev Known₃ : Type 0
-      Known₃ = (sends : (List ℕ)) × (w-sends : Val) × (e-sends : sends ≡ noneToSend) × (is-sends : Is (Array u8 128) sends (w-sends ∷ [])) ×
-          (receives : (List ℕ)) × (w-receives : Val) × (e-receives : receives ≡ none) × (Is (Array u8 256) receives (w-receives ∷ []))
+      Known₃ = (sends : (List ℕ)) × (w_sends : Val) × (e_sends : sends ≡ none_to_send) × (is_sends : Is (Array u8 128) sends (w_sends ∷ [])) ×
+          (receives : (List ℕ)) × (w_receives : Val) × (e_receives : receives ≡ none) × (Is (Array u8 256) receives (w_receives ∷ []))
 
       abbrev New₃ : Known₃ → Type 0
-      New₃ past = (z-receives : List ℕ) × (z-sends : List ℕ) × (ok : Bool) × (w-ok : Val) × (e-ok : Sound h z-sends z-receives ok) ×
-          (is_ok : Is Boolean ok (w-ok ∷ [])) × (Is (Array u8 128) z-sends ((array_vals (uint_vals w8)) z-sends))
+      New₃ past = (z_receives : List ℕ) × (z_sends : List ℕ) × (ok : Bool) × (w_ok : Val) × (e_ok : Sound h z_sends z_receives ok) ×
+          (is_ok : Is Boolean ok (w_ok ∷ [])) × (Is (Array u8 128) z_sends ((array_vals (uint_vals w8)) z_sends))
 
       abbrev Has₃ : (ℕ → ℕ) → Known₃ → List (Item 𝓤) → List (Item 𝓤)
       Has₃ p past Γ = ‵ (fat full_share (ty_array (ty_int w8) 256) (p 19) 0 (past.5))
-          ∷ ‵ (fat full_share (ty_array (ty_int w8) 128) (p 7) 0 (past.1)) ∷ ‵ (flft κ₀ q₀) ∷ ‵ (link-own κ₀ b o γ h)
+          ∷ ‵ (fat full_share (ty_array (ty_int w8) 128) (p 7) 0 (past.1)) ∷ ‵ (flft κ₀ q₀) ∷ ‵ (link_own κ₀ b o γ h)
           ∷ ‵ (froom (ty_ref erased mut (ty_array (ty_int w8) 256)) (p 22) 0) ∷ ‵ (froom (ty_ref erased mut (ty_array (ty_int w8) 128)) (p 21) 0)
           ∷ ‵ (froom (ty_ref erased imm (pointee L.written)) (p 20) 0) ∷ ‵ (froom ty_bool (p 9) 0)
           ∷ ‵ (froom (ty_array (ty_int w8) 256) (p 8) 0) ∷ ‵ (fat full_share (ty_ref (named 0) mut (pointee L.written)) (p 1) 0 (vptr b o))
@@ -668,7 +668,7 @@ module _ {M : Type 1} {𝓤 : Ura M} (𝓛 : Logic 𝓤) (at_mem : Memory → SP
 
       abbrev Leaves₃ : (ℕ → ℕ) → (past : Known₃) → New₃ past → List (Item 𝓤) → List (Item 𝓤)
       Leaves₃ p past new Γ = ‵ (fat full_share (ty_array (ty_int w8) 256) (p 8) 0 ((only ((array_vals (uint_vals w8)) new.0))))
-          ∷ ‵ (fat full_share (ty_array (ty_int w8) 128) (p 7) 0 ((only ((array_vals (uint_vals w8)) new.1)))) ∷ ‵ (link-own κ₀ b o γ h)
+          ∷ ‵ (fat full_share (ty_array (ty_int w8) 128) (p 7) 0 ((only ((array_vals (uint_vals w8)) new.1)))) ∷ ‵ (link_own κ₀ b o γ h)
           ∷ ‵ (flft κ₀ q₀) ∷ ‵ (fat full_share (ty_array (ty_int w8) 256) (p 19) 0 (past.5))
           ∷ ‵ (fat full_share (ty_ref erased mut (ty_array (ty_int w8) 256)) (p 22) 0 ((vptr (p 8) 0)))
           ∷ ‵ (fat full_share (ty_ref erased mut (ty_array (ty_int w8) 128)) (p 21) 0 ((vptr (p 7) 0)))
@@ -686,50 +686,50 @@ module _ {M : Type 1} {𝓤 : Ura M} (𝓛 : Logic 𝓤) (at_mem : Memory → SP
             assigns ! {v = (vptr b o)} (addr ! (from ! (hop ! (look ! 9 refl) (stop !)))) (from ! (stop !)) (init ! 6 refl (tt, tt)) $
             assigns ! {v = (vptr (p 7) 0)} (addr ! (from ! (stop !))) (from ! (stop !)) (init ! 5 refl (tt, tt)) $
             assigns ! {v = (vptr (p 8) 0)} (addr ! (from ! (stop !))) (from ! (stop !)) (init ! 4 refl (tt, tt)) $
-            move ! (3 ∷ 2 ∷ []) $ lend-whole ! tt L h b o γ
-            (λ α-block δ-block. move ! (5 ∷ []) $
+            move ! (3 ∷ 2 ∷ []) $ lend_whole ! tt L h b o γ
+            (λ α_block δ_block. move ! (5 ∷ []) $
             use1 𝓛 (‵ (cell_at full_share ((ty_array (ty_int w8) 128) ∷ []) (past.1 ∷ []) (p 7) 0))
             (𝓛.laws.at_raw full_share (ty_array (ty_int w8) 128) (p 7) 0 past.1) $
             cell_in ! full_share (Array u8 128) (Array-Makes 𝓛 u8 (uint_Makes 𝓛 w8) 128) past.0 (p 7) 0 past.1
             past.3 $
-            lend-mut ! tt (Array u8 128) past.0 (p 7) 0
-            (λ α-sends δ-sends. move ! (12 ∷ []) $
+            lend_mut ! tt (Array u8 128) past.0 (p 7) 0
+            (λ α_sends δ_sends. move ! (12 ∷ []) $
             use1 𝓛 (‵ (cell_at full_share ((ty_array (ty_int w8) 256) ∷ []) (past.5 ∷ []) (p 8) 0))
             (𝓛.laws.at_raw full_share (ty_array (ty_int w8) 256) (p 8) 0 past.5) $
             cell_in ! full_share (Array u8 256) (Array-Makes 𝓛 u8 (uint_Makes 𝓛 w8) 256) past.4 (p 8) 0 past.5
             past.7 $
-            lend-mut ! tt (Array u8 256) past.4 (p 8) 0
-            (λ α-receives δ-receives. move ! (6 ∷ 7 ∷ 3 ∷ 4 ∷ 0 ∷ 1 ∷ []) $ group ! 6 $
-            calls-fn ! fm check.ended (check.clauses 𝓛 at_mem run) known.2
-            (to-check α-block δ-block h (p 7) α-sends δ-sends past.0 (p 8) α-receives δ-receives past.4)
+            lend_mut ! tt (Array u8 256) past.4 (p 8) 0
+            (λ α_receives δ_receives. move ! (6 ∷ 7 ∷ 3 ∷ 4 ∷ 0 ∷ 1 ∷ []) $ group ! 6 $
+            calls_fn ! fm check.ended (check.clauses 𝓛 at_mem run) known.2
+            (to_check α_block δ_block h (p 7) α_sends δ_sends past.0 (p 8) α_receives δ_receives past.4)
             (λ ok ws-ok. Sound h ws-ok.1.0 ws-ok.1.1.0 ok)
-            (‵ (flft (α-block ∷ []) full_share) ⊛ ‵ ((ShrRef (named 0) (α-block ∷ []) L).own_val (ref-at b o δ-block h) ((vptr b o) ∷ [])) ⊛ ‵
-            (flft (α-sends ∷ []) full_share) ⊛ ‵ ((MutRef (named 0) (α-sends ∷ []) (Array u8 128)).own_val (ref-at (p 7) 0 δ-sends past.0)
-            ((vptr (p 7) 0) ∷ [])) ⊛ ‵ (flft (α-receives ∷ []) full_share) ⊛ ‵
-            ((MutRef (named 0) (α-receives ∷ []) (Array u8 256)).own_val (ref-at (p 8) 0 δ-receives past.4) ((vptr (p 8) 0) ∷ [])))
-            (asks-check α-block δ-block h (p 7) α-sends δ-sends past.0 (p 8) α-receives δ-receives past.4 (past.2, past.6))
+            (‵ (flft (α_block ∷ []) full_share) ⊛ ‵ ((ShrRef (named 0) (α_block ∷ []) L).own_val (ref_at b o δ_block h) ((vptr b o) ∷ [])) ⊛ ‵
+            (flft (α_sends ∷ []) full_share) ⊛ ‵ ((MutRef (named 0) (α_sends ∷ []) (Array u8 128)).own_val (ref_at (p 7) 0 δ_sends past.0)
+            ((vptr (p 7) 0) ∷ [])) ⊛ ‵ (flft (α_receives ∷ []) full_share) ⊛ ‵
+            ((MutRef (named 0) (α_receives ∷ []) (Array u8 256)).own_val (ref_at (p 8) 0 δ_receives past.4) ((vptr (p 8) 0) ∷ [])))
+            (asks_check α_block δ_block h (p 7) α_sends δ_sends past.0 (p 8) α_receives δ_receives past.4 (past.2, past.6))
             (λ ok ws-ok. id⊢ 𝓤 _)
             (and_then ! (load ! (from ! (stop !)) (look ! 8 refl))
             (and_then ! (load ! (from ! (stop !)) (look ! 7 refl)) (and_then ! (load ! (from ! (stop !)) (look ! 6 refl)) (no_more !))))
-            (λ ok w-ok ws-ok e-ok is_ok. land ! (from ! (stop !)) (init ! 10 refl ((bool_Lawful 𝓛).typed ok _ is_ok).0) $
-            spread 𝓛 (‵ (flft (α-block ∷ []) full_share))
-            (‵ (flft (α-sends ∷ []) full_share) ∷ ‵ (flft (α-receives ∷ []) full_share) ∷ ‵ ftrue ∷ []) (id⊢ 𝓤 _) $ move ! (4 ∷ []) $
-            spread 𝓛 (‵ ftrue) (‵ (fres δ-sends ((Array u8 128).coded.code ws-ok.1.0))
-            ∷ ‵ (fres δ-receives ((Array u8 256).coded.code ws-ok.1.1.0)) ∷ ‵ ftrue ∷ []) (id⊢ 𝓤 _) $ move ! (7 ∷ 3 ∷ 0 ∷ []) $
+            (λ ok w_ok ws-ok e_ok is_ok. land ! (from ! (stop !)) (init ! 10 refl ((bool_Lawful 𝓛).typed ok _ is_ok).0) $
+            spread 𝓛 (‵ (flft (α_block ∷ []) full_share))
+            (‵ (flft (α_sends ∷ []) full_share) ∷ ‵ (flft (α_receives ∷ []) full_share) ∷ ‵ ftrue ∷ []) (id⊢ 𝓤 _) $ move ! (4 ∷ []) $
+            spread 𝓛 (‵ ftrue) (‵ (fres δ_sends ((Array u8 128).coded.code ws-ok.1.0))
+            ∷ ‵ (fres δ_receives ((Array u8 256).coded.code ws-ok.1.1.0)) ∷ ‵ ftrue ∷ []) (id⊢ 𝓤 _) $ move ! (7 ∷ 3 ∷ 0 ∷ []) $
             group ! 3 $ drop ! $
             -- [fin:@sends; fin:@receives; tok:*; tok:@sends; tok:@receives; lent:@receives; lent:@sends; lent:*; opened; the locals]
             move ! (2 ∷ 7 ∷ 8 ∷ []) $ back_whole ! tt L h b o γ $ move ! (4 ∷ 7 ∷ 2 ∷ []) $
-            back-mut ! tt (Array u8 128) (p 7) 0 ws-ok.1.0 $
+            back_mut ! tt (Array u8 128) (p 7) 0 ws-ok.1.0 $
             cell_out ! full_share (Array u8 128) (array_vals (uint_vals w8)) (Array-Tells u8 (uint_vals w8) (uint_Tells w8) 128)
-            ws-ok.1.0 (p 7) 0 (λ was-sends-1. use1 𝓛
+            ws-ok.1.0 (p 7) 0 (λ was_sends_1. use1 𝓛
             (‵ (fat full_share (ty_array (ty_int w8) 128) (p 7) 0 (only ((array_vals (uint_vals w8)) ws-ok.1.0))))
             (𝓛.laws.raw_at full_share (ty_array (ty_int w8) 128) (p 7) 0 (only ((array_vals (uint_vals w8)) ws-ok.1.0))) $
-            move ! (4 ∷ 5 ∷ 3 ∷ []) $ back-mut ! tt (Array u8 256) (p 8) 0 ws-ok.1.1.0 $
+            move ! (4 ∷ 5 ∷ 3 ∷ []) $ back_mut ! tt (Array u8 256) (p 8) 0 ws-ok.1.1.0 $
             cell_out ! full_share (Array u8 256) (array_vals (uint_vals w8)) (Array-Tells u8 (uint_vals w8) (uint_Tells w8) 256)
-            ws-ok.1.1.0 (p 8) 0 (λ was-receives-2. use1 𝓛
+            ws-ok.1.1.0 (p 8) 0 (λ was_receives_2. use1 𝓛
             (‵ (fat full_share (ty_array (ty_int w8) 256) (p 8) 0 (only ((array_vals (uint_vals w8)) ws-ok.1.1.0))))
             (𝓛.laws.raw_at full_share (ty_array (ty_int w8) 256) (p 8) 0 (only ((array_vals (uint_vals w8)) ws-ok.1.1.0))) $
-            same ! (on (ws-ok.1.1.0, ws-ok.1.0, ok, w-ok, e-ok, is_ok, was-sends-1))))))));
+            same ! (on (ws-ok.1.1.0, ws-ok.1.0, ok, w_ok, e_ok, is_ok, was_sends_1))))))));
       }
 
       -- part 4: what it knows, what it tells; what it has, and leaves
@@ -737,19 +737,19 @@ module _ {M : Type 1} {𝓤 : Ura M} (𝓛 : Logic 𝓤) (at_mem : Memory → SP
       Known₄ = Unit {0}
 
       abbrev New₄ : Known₄ → Type 0
-      New₄ past = (len-queued : length h.queued ≡ 128) × (len-outstanding : length h.outstanding ≡ 32) ×
-          (len-transmissions : length h.transmissions ≡ 32) × (len-ready : length h.ready ≡ 128) ×
-          (len-waiting : length h.waiting ≡ 128) × (len-waiting-numbers : length h.waiting_numbers ≡ 128) ×
-          (was-settings : Is settings-row.the_row h.settings ((LL.vals settings-row.the_type settings-laws.the_laws) h.settings)) ×
-          (was-flight : Is flight-row.the_row h.flight ((LL.vals flight-row.the_type flight-laws.the_laws) h.flight)) ×
-          (was-arrival : Is arrival-row.the_row h.arrival ((LL.vals arrival-row.the_type arrival-laws.the_laws) h.arrival)) ×
-          (was-clock : Is clock-row.the_row h.clock ((LL.vals clock-row.the_type clock-laws.the_laws) h.clock)) × (fl : Bool) ×
-          (w-fl : Val) × (e-fl : fl ≡ flightFits h.settings.mode h.flight.una h.flight.next
-          (take h.flight.outstanding (padded (gathered (take sendSlots x₃.now)
-          (slotsIn h.outstanding h.flight.outstanding))))) × (Is Boolean fl (w-fl ∷ []))
+      New₄ past = (len_queued : length h.queued ≡ 128) × (len_outstanding : length h.outstanding ≡ 32) ×
+          (len_transmissions : length h.transmissions ≡ 32) × (len_ready : length h.ready ≡ 128) ×
+          (len_waiting : length h.waiting ≡ 128) × (len_waiting_numbers : length h.waiting_numbers ≡ 128) ×
+          (was_settings : Is settings-row.the_row h.settings ((LL.vals settings-row.the_type settings-laws.the_laws) h.settings)) ×
+          (was_flight : Is flight-row.the_row h.flight ((LL.vals flight-row.the_type flight-laws.the_laws) h.flight)) ×
+          (was_arrival : Is arrival-row.the_row h.arrival ((LL.vals arrival-row.the_type arrival-laws.the_laws) h.arrival)) ×
+          (was_clock : Is clock-row.the_row h.clock ((LL.vals clock-row.the_type clock-laws.the_laws) h.clock)) × (fl : Bool) ×
+          (w_fl : Val) × (e_fl : fl ≡ flight_fits h.settings.mode h.flight.una h.flight.next
+          (take h.flight.outstanding (padded (gathered (take send_slots x₃.now)
+          (slots_in h.outstanding h.flight.outstanding))))) × (Is Boolean fl (w_fl ∷ []))
 
       abbrev Has₄ : (ℕ → ℕ) → Known₄ → List (Item 𝓤) → List (Item 𝓤)
-      Has₄ p past Γ = ‵ (link-own κ₀ b o γ h) ∷ ‵ (flft κ₀ q₀)
+      Has₄ p past Γ = ‵ (link_own κ₀ b o γ h) ∷ ‵ (flft κ₀ q₀)
           ∷ ‵ (fat full_share (ty_ref (named 0) mut (pointee L.written)) (p 1) 0 (vptr b o)) ∷ ‵ (flft κ₃ q₃) ∷ ‵ Own₃
           ∷ ‵ (froom (ty_ref erased imm (ty_array (ty_int w32) 32)) (p 23) 0) ∷ ‵ (froom ty_bool (p 14) 0) ∷ ‵ (froom clock-laws.mir (p 13) 0)
           ∷ ‵ (froom arrival-laws.mir (p 12) 0) ∷ ‵ (froom flight-laws.mir (p 11) 0) ∷ ‵ (froom settings-laws.mir (p 10) 0)
@@ -779,97 +779,97 @@ module _ {M : Type 1} {𝓤 : Ura M} (𝓛 : Logic 𝓤) (at_mem : Memory → SP
       part₄ {Γ = Γ} t p past on = record {
         prf =
             qed 𝓛 (Has₄ p past Γ) ∵ exec ! C Λ (En p) (behind 8 (code.function).body) (at_ret (En p) Post) $
-            opens-link b o γ ! tt h $
+            opens_link b o γ ! tt h $
             -- [F:settings; F:flight; F:arrival; F:clock; F:queued; F:outstanding; F:transmissions; F:ready; F:waiting; F:«waiting_numbers»;
             -- back; opened; tok3; own3; the locals]
-            move ! (4 ∷ []) $ tells-length ! full_share u32 128 h.queued b (o + 124)
-            (λ len-queued. move ! (5 ∷ []) $
-            tells-length ! full_share u32 32 h.outstanding b (o + 636)
-            (λ len-outstanding. move ! (6 ∷ []) $
-            tells-length ! full_share u8 32 h.transmissions b (o + 764)
-            (λ len-transmissions. move ! (7 ∷ []) $
-            tells-length ! full_share u32 128 h.ready b (o + 796)
-            (λ len-ready. move ! (8 ∷ []) $
-            tells-length ! full_share u32 128 h.waiting b (o + 1308)
-            (λ len-waiting. move ! (9 ∷ []) $
-            tells-length ! full_share u32 128 h.waiting_numbers b (o + 1820)
-            (λ len-waiting-numbers. move ! (6 ∷ []) $
+            move ! (4 ∷ []) $ tells_length ! full_share u32 128 h.queued b (o + 124)
+            (λ len_queued. move ! (5 ∷ []) $
+            tells_length ! full_share u32 32 h.outstanding b (o + 636)
+            (λ len_outstanding. move ! (6 ∷ []) $
+            tells_length ! full_share u8 32 h.transmissions b (o + 764)
+            (λ len_transmissions. move ! (7 ∷ []) $
+            tells_length ! full_share u32 128 h.ready b (o + 796)
+            (λ len_ready. move ! (8 ∷ []) $
+            tells_length ! full_share u32 128 h.waiting b (o + 1308)
+            (λ len_waiting. move ! (9 ∷ []) $
+            tells_length ! full_share u32 128 h.waiting_numbers b (o + 1820)
+            (λ len_waiting_numbers. move ! (6 ∷ []) $
             cell_out ! full_share settings-row.the_row (LL.vals settings-row.the_type settings-laws.the_laws)
-            (LL.tells settings-row.the_type settings-laws.the_laws) h.settings b (o + 0) (λ was-settings.
+            (LL.tells settings-row.the_type settings-laws.the_laws) h.settings b (o + 0) (λ was_settings.
             assigns ! {v = (only ((LL.vals settings-row.the_type settings-laws.the_laws) h.settings))}
-            (of_opd ! (load ! (place-settings ! (look ! 12 refl)) (look_raw ! 0 refl))) (from ! (stop !))
+            (of_opd ! (load ! (place_settings ! (look ! 12 refl)) (look_raw ! 0 refl))) (from ! (stop !))
             (init ! 20 refl ((LL.lawful settings-row.the_type settings-laws.the_laws 𝓛).typed h.settings
-            ((only ((LL.vals settings-row.the_type settings-laws.the_laws) h.settings)) ∷ []) was-settings).0) $
+            ((only ((LL.vals settings-row.the_type settings-laws.the_laws) h.settings)) ∷ []) was_settings).0) $
             cell_in ! full_share settings-row.the_row (LL.makes settings-row.the_type settings-laws.the_plain 𝓛) h.settings b (o + 0)
-            (only ((LL.vals settings-row.the_type settings-laws.the_laws) h.settings)) was-settings $ move ! (7 ∷ []) $
+            (only ((LL.vals settings-row.the_type settings-laws.the_laws) h.settings)) was_settings $ move ! (7 ∷ []) $
             cell_out ! full_share flight-row.the_row (LL.vals flight-row.the_type flight-laws.the_laws)
-            (LL.tells flight-row.the_type flight-laws.the_laws) h.flight b (o + 16) (λ was-flight.
+            (LL.tells flight-row.the_type flight-laws.the_laws) h.flight b (o + 16) (λ was_flight.
             assigns ! {v = (only ((LL.vals flight-row.the_type flight-laws.the_laws) h.flight))}
-            (of_opd ! (load ! (place-flight ! (look ! 12 refl)) (look_raw ! 0 refl))) (from ! (stop !))
+            (of_opd ! (load ! (place_flight ! (look ! 12 refl)) (look_raw ! 0 refl))) (from ! (stop !))
             (init ! 19 refl ((LL.lawful flight-row.the_type flight-laws.the_laws 𝓛).typed h.flight
-            ((only ((LL.vals flight-row.the_type flight-laws.the_laws) h.flight)) ∷ []) was-flight).0) $
+            ((only ((LL.vals flight-row.the_type flight-laws.the_laws) h.flight)) ∷ []) was_flight).0) $
             cell_in ! full_share flight-row.the_row (LL.makes flight-row.the_type flight-laws.the_plain 𝓛) h.flight b (o + 16)
-            (only ((LL.vals flight-row.the_type flight-laws.the_laws) h.flight)) was-flight $ move ! (8 ∷ []) $
+            (only ((LL.vals flight-row.the_type flight-laws.the_laws) h.flight)) was_flight $ move ! (8 ∷ []) $
             cell_out ! full_share arrival-row.the_row (LL.vals arrival-row.the_type arrival-laws.the_laws)
-            (LL.tells arrival-row.the_type arrival-laws.the_laws) h.arrival b (o + 72) (λ was-arrival.
+            (LL.tells arrival-row.the_type arrival-laws.the_laws) h.arrival b (o + 72) (λ was_arrival.
             assigns ! {v = (only ((LL.vals arrival-row.the_type arrival-laws.the_laws) h.arrival))}
-            (of_opd ! (load ! (place-arrival ! (look ! 12 refl)) (look_raw ! 0 refl))) (from ! (stop !))
+            (of_opd ! (load ! (place_arrival ! (look ! 12 refl)) (look_raw ! 0 refl))) (from ! (stop !))
             (init ! 18 refl ((LL.lawful arrival-row.the_type arrival-laws.the_laws 𝓛).typed h.arrival
-            ((only ((LL.vals arrival-row.the_type arrival-laws.the_laws) h.arrival)) ∷ []) was-arrival).0) $
+            ((only ((LL.vals arrival-row.the_type arrival-laws.the_laws) h.arrival)) ∷ []) was_arrival).0) $
             cell_in ! full_share arrival-row.the_row (LL.makes arrival-row.the_type arrival-laws.the_plain 𝓛) h.arrival b (o + 72)
-            (only ((LL.vals arrival-row.the_type arrival-laws.the_laws) h.arrival)) was-arrival $ move ! (9 ∷ []) $
+            (only ((LL.vals arrival-row.the_type arrival-laws.the_laws) h.arrival)) was_arrival $ move ! (9 ∷ []) $
             cell_out ! full_share clock-row.the_row (LL.vals clock-row.the_type clock-laws.the_laws)
-            (LL.tells clock-row.the_type clock-laws.the_laws) h.clock b (o + 104) (λ was-clock.
+            (LL.tells clock-row.the_type clock-laws.the_laws) h.clock b (o + 104) (λ was_clock.
             assigns ! {v = (only ((LL.vals clock-row.the_type clock-laws.the_laws) h.clock))}
-            (of_opd ! (load ! (place-clock ! (look ! 12 refl)) (look_raw ! 0 refl))) (from ! (stop !))
+            (of_opd ! (load ! (place_clock ! (look ! 12 refl)) (look_raw ! 0 refl))) (from ! (stop !))
             (init ! 17 refl ((LL.lawful clock-row.the_type clock-laws.the_laws 𝓛).typed h.clock
-            ((only ((LL.vals clock-row.the_type clock-laws.the_laws) h.clock)) ∷ []) was-clock).0) $
+            ((only ((LL.vals clock-row.the_type clock-laws.the_laws) h.clock)) ∷ []) was_clock).0) $
             cell_in ! full_share clock-row.the_row (LL.makes clock-row.the_type clock-laws.the_plain 𝓛) h.clock b (o + 104)
-            (only ((LL.vals clock-row.the_type clock-laws.the_laws) h.clock)) was-clock $
-            assigns ! {v = (vptr b (o + 636))} (addr ! (place-outstanding ! (look ! 12 refl))) (from ! (stop !))
+            (only ((LL.vals clock-row.the_type clock-laws.the_laws) h.clock)) was_clock $
+            assigns ! {v = (vptr b (o + 636))} (addr ! (place_outstanding ! (look ! 12 refl))) (from ! (stop !))
             (init ! 15 refl (tt, tt)) $
-            move ! (8 ∷ []) $ lend-shr ! tt full_share (Array u32 32) h.outstanding b (o + 636)
-            (λ α-outstanding δ-outstanding. move ! (16 ∷ []) $
+            move ! (8 ∷ []) $ lend_shr ! tt full_share (Array u32 32) h.outstanding b (o + 636)
+            (λ α_outstanding δ_outstanding. move ! (16 ∷ []) $
             use1 𝓛 (‵ Own₃ ⊛ ‵ Own₃) ((shr_slice_copy 𝓛 (named 0) κ₃ R).twice x₃ (s₃ ∷ [])) $ split ! $
             move ! (17 ∷ 0 ∷ 2 ∷ 3 ∷ []) $ group ! 4 $
-            calls-fn ! fm fit.ended (fit.clauses 𝓛 at_mem run) known.3
-            (to-fit α-outstanding δ-outstanding h.outstanding h.settings
+            calls_fn ! fm fit.ended (fit.clauses 𝓛 at_mem run) known.3
+            (to_fit α_outstanding δ_outstanding h.outstanding h.settings
             (only ((LL.vals settings-row.the_type settings-laws.the_laws) h.settings)) h.flight
             (only ((LL.vals flight-row.the_type flight-laws.the_laws) h.flight)))
-            (λ fl ws-fl. fl ≡ flightFits h.settings.mode h.flight.una h.flight.next
-            (take h.flight.outstanding (padded (gathered (take sendSlots x₃.now)
-            (slotsIn h.outstanding h.flight.outstanding)))))
-            (‵ (flft κ₃ q₃) ⊛ ‵ Own₃ ⊛ ‵ (flft (α-outstanding ∷ []) full_share) ⊛ ‵
-            ((ShrRef (named 0) (α-outstanding ∷ []) (Array u32 32)).own_val (ref-at b (o + 636) δ-outstanding h.outstanding)
+            (λ fl ws-fl. fl ≡ flight_fits h.settings.mode h.flight.una h.flight.next
+            (take h.flight.outstanding (padded (gathered (take send_slots x₃.now)
+            (slots_in h.outstanding h.flight.outstanding)))))
+            (‵ (flft κ₃ q₃) ⊛ ‵ Own₃ ⊛ ‵ (flft (α_outstanding ∷ []) full_share) ⊛ ‵
+            ((ShrRef (named 0) (α_outstanding ∷ []) (Array u32 32)).own_val (ref_at b (o + 636) δ_outstanding h.outstanding)
             ((vptr b (o + 636)) ∷ [])))
-            (asks-fit α-outstanding δ-outstanding h.outstanding h.settings
-            (only ((LL.vals settings-row.the_type settings-laws.the_laws) h.settings)) was-settings h.flight
-            (only ((LL.vals flight-row.the_type flight-laws.the_laws) h.flight)) was-flight (len-outstanding)) (λ fl ws-fl. id⊢ 𝓤 _)
+            (asks_fit α_outstanding δ_outstanding h.outstanding h.settings
+            (only ((LL.vals settings-row.the_type settings-laws.the_laws) h.settings)) was_settings h.flight
+            (only ((LL.vals flight-row.the_type flight-laws.the_laws) h.flight)) was_flight (len_outstanding)) (λ fl ws-fl. id⊢ 𝓤 _)
             (and_then ! (load ! (from ! (stop !)) (look ! 21 refl))
             (and_then ! (load ! (from ! (stop !)) (look ! 15 refl))
             (and_then ! (load ! (from ! (stop !)) (look ! 20 refl)) (and_then ! (load ! (from ! (stop !)) (look ! 19 refl)) (no_more !)))))
-            (λ fl w-fl ws-fl e-fl is-fl. land ! (from ! (stop !)) (init ! 17 refl ((bool_Lawful 𝓛).typed fl _ is-fl).0) $
-            spread 𝓛 (‵ (flft κ₃ q₃)) (‵ (flft (α-outstanding ∷ []) full_share) ∷ ‵ ftrue ∷ []) (id⊢ 𝓤 _) $ move ! (3 ∷ []) $
+            (λ fl w_fl ws-fl e_fl is_fl. land ! (from ! (stop !)) (init ! 17 refl ((bool_Lawful 𝓛).typed fl _ is_fl).0) $
+            spread 𝓛 (‵ (flft κ₃ q₃)) (‵ (flft (α_outstanding ∷ []) full_share) ∷ ‵ ftrue ∷ []) (id⊢ 𝓤 _) $ move ! (3 ∷ []) $
             spread 𝓛 (‵ ftrue) (‵ ftrue ∷ ‵ ftrue ∷ ‵ ftrue ∷ ‵ ftrue ∷ []) (id⊢ 𝓤 _) $
             move ! (7 ∷ 4 ∷ 0 ∷ 1 ∷ 2 ∷ 3 ∷ []) $ group ! 6 $ drop ! $
             -- [tok3; tok:outstanding; own3; lent:outstanding; F:clock; F:arrival; F:flight; F:settings; F:«waiting_numbers»; F:waiting;
             -- F:ready; F:transmissions; F:queued; back; opened; the locals]
             move ! (1 ∷ 3 ∷ []) $ back_shr ! tt full_share (Array u32 32) b (o + 636) h.outstanding $
             same ! (on (
-              len-queued,
-              len-outstanding,
-              len-transmissions,
-              len-ready,
-              len-waiting,
-              len-waiting-numbers,
-              was-settings,
-              was-flight,
-              was-arrival,
-              was-clock,
+              len_queued,
+              len_outstanding,
+              len_transmissions,
+              len_ready,
+              len_waiting,
+              len_waiting_numbers,
+              was_settings,
+              was_flight,
+              was_arrival,
+              was_clock,
               fl,
-              w-fl,
-              e-fl,
-              is-fl,
+              w_fl,
+              e_fl,
+              is_fl,
             ))))))))))))));
       }
 
@@ -878,7 +878,7 @@ module _ {M : Type 1} {𝓤 : Ura M} (𝓛 : Logic 𝓤) (at_mem : Memory → SP
       Known₅ = Unit {0}
 
       abbrev New₅ : Known₅ → Type 0
-      New₅ past = (m : ℕ) × (w-m : Val) × (e-m : m ≡ length x₃.now) × (Is usize m (w-m ∷ []))
+      New₅ past = (m : ℕ) × (w_m : Val) × (e_m : m ≡ length x₃.now) × (Is usize m (w_m ∷ []))
 
       abbrev Has₅ : (ℕ → ℕ) → Known₅ → List (Item 𝓤) → List (Item 𝓤)
       Has₅ p past Γ = ‵ (flft κ₃ q₃) ∷ ‵ Own₃ ∷ ‵ (fat full_share (slice_ty (ty_ref (named 3) imm (pointee R.written))) (p 4) 0 (s₃))
@@ -894,39 +894,39 @@ module _ {M : Type 1} {𝓤 : Ura M} (𝓛 : Logic 𝓤) (at_mem : Memory → SP
       part₅ {Γ = Γ} t p past on = record {
         prf =
             qed 𝓛 (Has₅ p past Γ) ∵ exec ! C Λ (En p) (behind 14 (code.function).body) (at_ret (En p) Post) $
-            join ! $ calls-fn ! fm table-len.ended (table-len.clauses 𝓛 at_mem run) known.4 (to-table-len)
+            join ! $ calls_fn ! fm table-len.ended (table-len.clauses 𝓛 at_mem run) known.4 (to_table_len)
             (λ m ws-m. m ≡ length x₃.now) (‵ (flft κ₃ q₃) ⊛ ‵ Own₃)
-            (asks-table-len) (λ m ws-m. id⊢ 𝓤 _)
+            (asks_table_len) (λ m ws-m. id⊢ 𝓤 _)
             (and_then ! (load ! (from ! (stop !)) (look ! 1 refl)) (no_more !))
-            (λ m w-m ws-m e-m is_m. land ! (from ! (stop !)) (init ! 3 refl ((uint_Lawful 𝓛 w64).typed m _ is_m).0) $
+            (λ m w_m ws-m e_m is_m. land ! (from ! (stop !)) (init ! 3 refl ((uint_Lawful 𝓛 w64).typed m _ is_m).0) $
             spread 𝓛 (‵ (flft κ₃ q₃)) (‵ ftrue ∷ []) (id⊢ 𝓤 _) $ move ! (2 ∷ []) $ spread 𝓛 (‵ ftrue) (‵ ftrue ∷ []) (id⊢ 𝓤 _) $
             move ! (3 ∷ 1 ∷ 0 ∷ []) $ group ! 3 $ drop ! $
             -- [tok3; the locals]
-            same ! (on (m, w-m, e-m, is_m)));
+            same ! (on (m, w_m, e_m, is_m)));
       }
 
       -- part 6: what it knows, what it tells; what it has, and leaves
       abbrev Known₆ : Type 0
-      Known₆ = (z-receives : List ℕ) × (z-sends : List ℕ) × (ok : Bool) × (w-ok : Val) × (e-ok : Sound h z-sends z-receives ok) ×
-          (is_ok : Is Boolean ok (w-ok ∷ [])) × (was-sends-1 : Is (Array u8 128) z-sends ((array_vals (uint_vals w8)) z-sends)) ×
-          (len-queued : length h.queued ≡ 128) × (len-outstanding : length h.outstanding ≡ 32) ×
-          (len-transmissions : length h.transmissions ≡ 32) × (len-ready : length h.ready ≡ 128) ×
-          (len-waiting : length h.waiting ≡ 128) × (len-waiting-numbers : length h.waiting_numbers ≡ 128) ×
-          (was-settings : Is settings-row.the_row h.settings ((LL.vals settings-row.the_type settings-laws.the_laws) h.settings)) ×
-          (was-flight : Is flight-row.the_row h.flight ((LL.vals flight-row.the_type flight-laws.the_laws) h.flight)) ×
-          (was-arrival : Is arrival-row.the_row h.arrival ((LL.vals arrival-row.the_type arrival-laws.the_laws) h.arrival)) ×
-          (was-clock : Is clock-row.the_row h.clock ((LL.vals clock-row.the_type clock-laws.the_laws) h.clock)) × (fl : Bool) ×
-          (w-fl : Val) × (e-fl : fl ≡ flightFits h.settings.mode h.flight.una h.flight.next
-          (take h.flight.outstanding (padded (gathered (take sendSlots x₃.now)
-          (slotsIn h.outstanding h.flight.outstanding))))) × (is-fl : Is Boolean fl (w-fl ∷ [])) × (m : ℕ) × (w-m : Val) ×
-          (Is usize m (w-m ∷ []))
+      Known₆ = (z_receives : List ℕ) × (z_sends : List ℕ) × (ok : Bool) × (w_ok : Val) × (e_ok : Sound h z_sends z_receives ok) ×
+          (is_ok : Is Boolean ok (w_ok ∷ [])) × (was_sends_1 : Is (Array u8 128) z_sends ((array_vals (uint_vals w8)) z_sends)) ×
+          (len_queued : length h.queued ≡ 128) × (len_outstanding : length h.outstanding ≡ 32) ×
+          (len_transmissions : length h.transmissions ≡ 32) × (len_ready : length h.ready ≡ 128) ×
+          (len_waiting : length h.waiting ≡ 128) × (len_waiting_numbers : length h.waiting_numbers ≡ 128) ×
+          (was_settings : Is settings-row.the_row h.settings ((LL.vals settings-row.the_type settings-laws.the_laws) h.settings)) ×
+          (was_flight : Is flight-row.the_row h.flight ((LL.vals flight-row.the_type flight-laws.the_laws) h.flight)) ×
+          (was_arrival : Is arrival-row.the_row h.arrival ((LL.vals arrival-row.the_type arrival-laws.the_laws) h.arrival)) ×
+          (was_clock : Is clock-row.the_row h.clock ((LL.vals clock-row.the_type clock-laws.the_laws) h.clock)) × (fl : Bool) ×
+          (w_fl : Val) × (e_fl : fl ≡ flight_fits h.settings.mode h.flight.una h.flight.next
+          (take h.flight.outstanding (padded (gathered (take send_slots x₃.now)
+          (slots_in h.outstanding h.flight.outstanding))))) × (is_fl : Is Boolean fl (w_fl ∷ [])) × (m : ℕ) × (w_m : Val) ×
+          (Is usize m (w_m ∷ []))
 
       abbrev New₆ : Known₆ → Type 0
-      New₆ past = (z₁ : List ℕ) × (z-queued : List ℕ) × (a : Submitted) × (w-a : Val) ×
-          (e-a : ByFlown h past.17 (λ recs. SendLeaves h recs past.21 x₁.now x₂.now x₄.now x₅.now a.answer
+      New₆ past = (z₁ : List ℕ) × (z_queued : List ℕ) × (a : Submitted) × (w_a : Val) ×
+          (e_a : ByFlown h past.17 (λ recs. SendLeaves h recs past.21 x₁.now x₂.now x₄.now x₅.now a.answer
           (link_of h.settings a.flight h.arrival h.clock
-          (arrays z-queued h.outstanding h.transmissions h.ready h.waiting h.waiting_numbers)) z₁)) ×
-          (is-a : Is submitted-row.the_row a (w-a ∷ [])) × (length z₁ ≡ length x₁.now)
+          (arrays z_queued h.outstanding h.transmissions h.ready h.waiting h.waiting_numbers)) z₁)) ×
+          (is_a : Is submitted-row.the_row a (w_a ∷ [])) × (length z₁ ≡ length x₁.now)
 
       abbrev Has₆ : (ℕ → ℕ) → Known₆ → List (Item 𝓤) → List (Item 𝓤)
       Has₆ p past Γ = ‵ (fat full_share (ty_int w64) (p 15) 0 (past.22)) ∷ ‵ (part_at (Array u32 32) full_share h.outstanding b (o + 636))
@@ -987,12 +987,12 @@ module _ {M : Type 1} {𝓤 : Ura M} (𝓛 : Logic 𝓤) (at_mem : Memory → SP
       part₆ {Γ = Γ} t p past on = record {
         prf =
             qed 𝓛 (Has₆ p past Γ) ∵ exec ! C Λ (En p) (behind 15 (code.function).body) (at_ret (En p) Post) $
-            assigns ! {v = (vptr b (o + 124))} (addr ! (place-queued ! (look ! 7 refl))) (from ! (stop !)) (init ! 31 refl (tt, tt)) $
-            assigns ! {v = (vptr b (o + 636))} (addr ! (place-outstanding ! (look ! 7 refl))) (from ! (stop !)) (init ! 30 refl (tt, tt)) $
-            assigns ! {v = (vptr b (o + 764))} (addr ! (place-transmissions ! (look ! 7 refl))) (from ! (stop !)) (init ! 29 refl (tt, tt)) $
-            assigns ! {v = (vptr b (o + 796))} (addr ! (place-ready ! (look ! 7 refl))) (from ! (stop !)) (init ! 28 refl (tt, tt)) $
-            assigns ! {v = (vptr b (o + 1308))} (addr ! (place-waiting ! (look ! 7 refl))) (from ! (stop !)) (init ! 27 refl (tt, tt)) $
-            assigns ! {v = (vptr b (o + 1820))} (addr ! (place-waiting-numbers ! (look ! 7 refl))) (from ! (stop !))
+            assigns ! {v = (vptr b (o + 124))} (addr ! (place_queued ! (look ! 7 refl))) (from ! (stop !)) (init ! 31 refl (tt, tt)) $
+            assigns ! {v = (vptr b (o + 636))} (addr ! (place_outstanding ! (look ! 7 refl))) (from ! (stop !)) (init ! 30 refl (tt, tt)) $
+            assigns ! {v = (vptr b (o + 764))} (addr ! (place_transmissions ! (look ! 7 refl))) (from ! (stop !)) (init ! 29 refl (tt, tt)) $
+            assigns ! {v = (vptr b (o + 796))} (addr ! (place_ready ! (look ! 7 refl))) (from ! (stop !)) (init ! 28 refl (tt, tt)) $
+            assigns ! {v = (vptr b (o + 1308))} (addr ! (place_waiting ! (look ! 7 refl))) (from ! (stop !)) (init ! 27 refl (tt, tt)) $
+            assigns ! {v = (vptr b (o + 1820))} (addr ! (place_waiting_numbers ! (look ! 7 refl))) (from ! (stop !))
             (init ! 26 refl (tt, tt)) $
             assigns ! {v = (vptr (p 7) 0)} (addr ! (from ! (stop !))) (from ! (stop !)) (init ! 25 refl (tt, tt)) $
             assigns ! {v = (vptr x₁.ptr.0 x₁.ptr.1)}
@@ -1001,28 +1001,28 @@ module _ {M : Type 1} {𝓤 : Ura M} (𝓛 : Logic 𝓤) (at_mem : Memory → SP
             assigns ! {v = s₁} (agg ! (and_then ! (load ! (from ! (stop !)) (look ! 24 refl))
             (and_then ! (load ! (from ! (fld ! refl (stop !))) (look_in ! 36 (sub ! 1 refl (whole !)))) (no_more !)))) (from ! (stop !))
             (init ! 23 refl (tt, (tt, (record { fits = room₁.0 }, tt)))) $
-            move ! (6 ∷ []) $ lend-mut ! tt (Array u32 128) h.queued b (o + 124)
-            (λ α-queued δ-queued. move ! (4 ∷ []) $
-            lend-shr ! tt full_share (Array u32 32) h.outstanding b (o + 636)
+            move ! (6 ∷ []) $ lend_mut ! tt (Array u32 128) h.queued b (o + 124)
+            (λ α_queued δ_queued. move ! (4 ∷ []) $
+            lend_shr ! tt full_share (Array u32 32) h.outstanding b (o + 636)
             (λ α-outstanding' δ-outstanding'. move ! (10 ∷ []) $
-            lend-shr ! tt full_share (Array u8 32) h.transmissions b (o + 764)
-            (λ α-transmissions δ-transmissions. move ! (12 ∷ []) $
-            lend-shr ! tt full_share (Array u32 128) h.ready b (o + 796)
-            (λ α-ready δ-ready. move ! (14 ∷ []) $
-            lend-shr ! tt full_share (Array u32 128) h.waiting b (o + 1308)
-            (λ α-waiting δ-waiting. move ! (16 ∷ []) $
-            lend-shr ! tt full_share (Array u32 128) h.waiting_numbers b (o + 1820)
-            (λ α-waiting-numbers δ-waiting-numbers. move ! (25 ∷ []) $
+            lend_shr ! tt full_share (Array u8 32) h.transmissions b (o + 764)
+            (λ α_transmissions δ_transmissions. move ! (12 ∷ []) $
+            lend_shr ! tt full_share (Array u32 128) h.ready b (o + 796)
+            (λ α_ready δ_ready. move ! (14 ∷ []) $
+            lend_shr ! tt full_share (Array u32 128) h.waiting b (o + 1308)
+            (λ α_waiting δ_waiting. move ! (16 ∷ []) $
+            lend_shr ! tt full_share (Array u32 128) h.waiting_numbers b (o + 1820)
+            (λ α_waiting_numbers δ_waiting_numbers. move ! (25 ∷ []) $
             use1 𝓛 (‵ (cell_at full_share ((ty_array (ty_int w8) 128) ∷ []) ((only ((array_vals (uint_vals w8)) past.1)) ∷ []) (p 7) 0))
             (𝓛.laws.at_raw full_share (ty_array (ty_int w8) 128) (p 7) 0 (only ((array_vals (uint_vals w8)) past.1))) $
             cell_in ! full_share (Array u8 128) (Array-Makes 𝓛 u8 (uint_Makes 𝓛 w8) 128) past.1 (p 7) 0
             (only ((array_vals (uint_vals w8)) past.1)) past.6 $
-            lend-shr ! tt full_share (Array u8 128) past.1 (p 7) 0
+            lend_shr ! tt full_share (Array u8 128) past.1 (p 7) 0
             (λ α-sends' δ-sends'. move ! (18 ∷ 19 ∷ 15 ∷ 16 ∷ 12 ∷ 13 ∷ 9 ∷ 10 ∷ 6 ∷ 7 ∷ 3 ∷ 4 ∷ 0 ∷ 1 ∷ 29 ∷ 33 ∷ 30
             ∷ 34 ∷ 31 ∷ 35 ∷ 32 ∷ 36 ∷ []) $ group ! 22 $
-            calls-fn ! fm core.ended (core.clauses 𝓛 at_mem run) known.5
-            (to-core α-queued δ-queued h.queued α-outstanding' δ-outstanding' h.outstanding α-transmissions δ-transmissions
-            h.transmissions α-ready δ-ready h.ready α-waiting δ-waiting h.waiting α-waiting-numbers δ-waiting-numbers
+            calls_fn ! fm core.ended (core.clauses 𝓛 at_mem run) known.5
+            (to_core α_queued δ_queued h.queued α-outstanding' δ-outstanding' h.outstanding α_transmissions δ_transmissions
+            h.transmissions α_ready δ_ready h.ready α_waiting δ_waiting h.waiting α_waiting_numbers δ_waiting_numbers
             h.waiting_numbers (p 7) α-sends' δ-sends' past.1 h.settings
             (only ((LL.vals settings-row.the_type settings-laws.the_laws) h.settings)) h.flight
             (only ((LL.vals flight-row.the_type flight-laws.the_laws) h.flight)) h.arrival
@@ -1033,22 +1033,22 @@ module _ {M : Type 1} {𝓤 : Ura M} (𝓛 : Logic 𝓤) (at_mem : Memory → SP
             (link_of h.settings a.flight h.arrival h.clock
             (arrays ws-a.1.1.1.1.1.1.1.0 h.outstanding h.transmissions h.ready h.waiting h.waiting_numbers))
             ws-a.1.1.1.1.1.1.1.1.1.1.1.1.1.1.0))
-            (‵ (flft (α-queued ∷ []) full_share) ⊛ ‵ ((MutRef (named 0) (α-queued ∷ []) (Array u32 128)).own_val
-            (ref-at b (o + 124) δ-queued h.queued) ((vptr b (o + 124)) ∷ [])) ⊛ ‵ (flft (α-outstanding' ∷ []) full_share) ⊛ ‵
-            ((ShrRef (named 0) (α-outstanding' ∷ []) (Array u32 32)).own_val (ref-at b (o + 636) δ-outstanding' h.outstanding)
-            ((vptr b (o + 636)) ∷ [])) ⊛ ‵ (flft (α-transmissions ∷ []) full_share) ⊛ ‵
-            ((ShrRef (named 0) (α-transmissions ∷ []) (Array u8 32)).own_val (ref-at b (o + 764) δ-transmissions h.transmissions)
-            ((vptr b (o + 764)) ∷ [])) ⊛ ‵ (flft (α-ready ∷ []) full_share) ⊛ ‵
-            ((ShrRef (named 0) (α-ready ∷ []) (Array u32 128)).own_val (ref-at b (o + 796) δ-ready h.ready) ((vptr b (o + 796)) ∷ [])) ⊛ ‵
-            (flft (α-waiting ∷ []) full_share) ⊛ ‵ ((ShrRef (named 0) (α-waiting ∷ []) (Array u32 128)).own_val
-            (ref-at b (o + 1308) δ-waiting h.waiting) ((vptr b (o + 1308)) ∷ [])) ⊛ ‵ (flft (α-waiting-numbers ∷ []) full_share) ⊛ ‵
-            ((ShrRef (named 0) (α-waiting-numbers ∷ []) (Array u32 128)).own_val (ref-at b (o + 1820) δ-waiting-numbers h.waiting_numbers)
+            (‵ (flft (α_queued ∷ []) full_share) ⊛ ‵ ((MutRef (named 0) (α_queued ∷ []) (Array u32 128)).own_val
+            (ref_at b (o + 124) δ_queued h.queued) ((vptr b (o + 124)) ∷ [])) ⊛ ‵ (flft (α-outstanding' ∷ []) full_share) ⊛ ‵
+            ((ShrRef (named 0) (α-outstanding' ∷ []) (Array u32 32)).own_val (ref_at b (o + 636) δ-outstanding' h.outstanding)
+            ((vptr b (o + 636)) ∷ [])) ⊛ ‵ (flft (α_transmissions ∷ []) full_share) ⊛ ‵
+            ((ShrRef (named 0) (α_transmissions ∷ []) (Array u8 32)).own_val (ref_at b (o + 764) δ_transmissions h.transmissions)
+            ((vptr b (o + 764)) ∷ [])) ⊛ ‵ (flft (α_ready ∷ []) full_share) ⊛ ‵
+            ((ShrRef (named 0) (α_ready ∷ []) (Array u32 128)).own_val (ref_at b (o + 796) δ_ready h.ready) ((vptr b (o + 796)) ∷ [])) ⊛ ‵
+            (flft (α_waiting ∷ []) full_share) ⊛ ‵ ((ShrRef (named 0) (α_waiting ∷ []) (Array u32 128)).own_val
+            (ref_at b (o + 1308) δ_waiting h.waiting) ((vptr b (o + 1308)) ∷ [])) ⊛ ‵ (flft (α_waiting_numbers ∷ []) full_share) ⊛ ‵
+            ((ShrRef (named 0) (α_waiting_numbers ∷ []) (Array u32 128)).own_val (ref_at b (o + 1820) δ_waiting_numbers h.waiting_numbers)
             ((vptr b (o + 1820)) ∷ [])) ⊛ ‵ (flft (α-sends' ∷ []) full_share) ⊛ ‵
-            ((ShrRef (named 0) (α-sends' ∷ []) (Array u8 128)).own_val (ref-at (p 7) 0 δ-sends' past.1) ((vptr (p 7) 0) ∷ [])) ⊛ ‵
+            ((ShrRef (named 0) (α-sends' ∷ []) (Array u8 128)).own_val (ref_at (p 7) 0 δ-sends' past.1) ((vptr (p 7) 0) ∷ [])) ⊛ ‵
             (flft κ₁ q₁) ⊛ ‵ Own₁ ⊛ ‵ (flft κ₂ q₂) ⊛ ‵ Own₂ ⊛ ‵ (flft κ₄ q₄) ⊛ ‵ Own₄ ⊛ ‵ (flft κ₅ q₅) ⊛
             ‵ Own₅)
-            (asks-core α-queued δ-queued h.queued α-outstanding' δ-outstanding' h.outstanding α-transmissions δ-transmissions
-            h.transmissions α-ready δ-ready h.ready α-waiting δ-waiting h.waiting α-waiting-numbers δ-waiting-numbers
+            (asks_core α_queued δ_queued h.queued α-outstanding' δ-outstanding' h.outstanding α_transmissions δ_transmissions
+            h.transmissions α_ready δ_ready h.ready α_waiting δ_waiting h.waiting α_waiting_numbers δ_waiting_numbers
             h.waiting_numbers (p 7) α-sends' δ-sends' past.1 h.settings
             (only ((LL.vals settings-row.the_type settings-laws.the_laws) h.settings)) past.13 h.flight
             (only ((LL.vals flight-row.the_type flight-laws.the_laws) h.flight)) past.14 h.arrival
@@ -1056,16 +1056,16 @@ module _ {M : Type 1} {𝓤 : Ura M} (𝓛 : Logic 𝓤) (at_mem : Memory → SP
             (only ((LL.vals clock-row.the_type clock-laws.the_laws) h.clock)) past.16 past.2 past.3 past.5 past.17
             past.18 past.20 past.21 past.22 past.23 (
               record {
-                whole-queued = past.7;
-                whole-outstanding = past.8;
-                whole-transmissions = past.9;
+                whole_queued = past.7;
+                whole_outstanding = past.8;
+                whole_transmissions = past.9;
                 whole_ready = past.10;
-                whole-waiting = past.11;
+                whole_waiting = past.11;
                 whole_numbers = past.12;
               },
               (
-                (padded (gathered (take sendSlots x₃.now) (slotsIn h.outstanding h.flight.outstanding))),
-                (record { whole = padded-whole (take sendSlots x₃.now) h.outstanding h.flight.outstanding; fits = past.19 }),
+                (padded (gathered (take send_slots x₃.now) (slots_in h.outstanding h.flight.outstanding))),
+                (record { whole = padded_whole (take send_slots x₃.now) h.outstanding h.flight.outstanding; fits = past.19 }),
               ),
               (past.0, past.4),
             )) (λ a ws-a. id⊢ 𝓤 _)
@@ -1087,14 +1087,14 @@ module _ {M : Type 1} {𝓤 : Ura M} (𝓛 : Logic 𝓤) (at_mem : Memory → SP
             (and_then ! (load ! (from ! (stop !)) (look ! 28 refl))
             (and_then ! (load ! (from ! (stop !)) (look ! 27 refl))
             (and_then ! (load ! (from ! (stop !)) (look ! 26 refl)) (no_more !)))))))))))))))))))
-            (λ a w-a ws-a e-a is-a. land ! (from ! (stop !))
-            (init ! 26 refl ((LL.lawful submitted-row.the_type submitted-laws.the_laws 𝓛).typed a (w-a ∷ []) is-a).0) $
-            spread 𝓛 (‵ (flft (α-queued ∷ []) full_share))
-            (‵ (flft (α-outstanding' ∷ []) full_share) ∷ ‵ (flft (α-transmissions ∷ []) full_share) ∷ ‵ (flft (α-ready ∷ []) full_share)
-            ∷ ‵ (flft (α-waiting ∷ []) full_share) ∷ ‵ (flft (α-waiting-numbers ∷ []) full_share) ∷ ‵ (flft (α-sends' ∷ []) full_share)
+            (λ a w_a ws-a e_a is_a. land ! (from ! (stop !))
+            (init ! 26 refl ((LL.lawful submitted-row.the_type submitted-laws.the_laws 𝓛).typed a (w_a ∷ []) is_a).0) $
+            spread 𝓛 (‵ (flft (α_queued ∷ []) full_share))
+            (‵ (flft (α-outstanding' ∷ []) full_share) ∷ ‵ (flft (α_transmissions ∷ []) full_share) ∷ ‵ (flft (α_ready ∷ []) full_share)
+            ∷ ‵ (flft (α_waiting ∷ []) full_share) ∷ ‵ (flft (α_waiting_numbers ∷ []) full_share) ∷ ‵ (flft (α-sends' ∷ []) full_share)
             ∷ ‵ (flft κ₁ q₁) ∷ ‵ (flft κ₂ q₂) ∷ ‵ (flft κ₄ q₄) ∷ ‵ (flft κ₅ q₅) ∷ ‵ ftrue ∷ []) (id⊢ 𝓤 _) $
             move ! (12 ∷ []) $ spread 𝓛 (‵ ftrue) (‵ ftrue ∷ ‵ ftrue ∷ ‵ ftrue ∷ ‵ ftrue ∷ ‵ ftrue ∷ ‵ ftrue
-            ∷ ‵ (fres δ-queued ((Array u32 128).coded.code ws-a.1.1.1.1.1.1.1.0)) ∷ ‵ ftrue ∷ ‵ ftrue ∷ ‵ ftrue ∷ ‵ ftrue
+            ∷ ‵ (fres δ_queued ((Array u32 128).coded.code ws-a.1.1.1.1.1.1.1.0)) ∷ ‵ ftrue ∷ ‵ ftrue ∷ ‵ ftrue ∷ ‵ ftrue
             ∷ ‵ ftrue ∷ ‵ ftrue ∷ ‵ (fsep (finally u8 x₁.name ws-a.1.1.1.1.1.1.1.1.1.1.1.1.1.1.0)
             (feq ℕ (length ws-a.1.1.1.1.1.1.1.1.1.1.1.1.1.1.0) (length x₁.now))) ∷ ‵ ftrue ∷ ‵ ftrue ∷ ‵ ftrue
             ∷ ‵ ftrue ∷ []) (id⊢ 𝓤 _) $ move ! (30 ∷ 18 ∷ 0 ∷ 1 ∷ 2 ∷ 3 ∷ 4 ∷ 5 ∷ 6 ∷ 8 ∷ 9 ∷ 10 ∷ 11 ∷ 12 ∷ 13 ∷ 15
@@ -1102,7 +1102,7 @@ module _ {M : Type 1} {𝓤 : Ura M} (𝓛 : Logic 𝓤) (at_mem : Memory → SP
             -- [fin1; fin:queued; tok:queued; tok:outstanding; tok:transmissions; tok:ready; tok:waiting; tok:«waiting_numbers»; tok:@sends;
             -- tok1; tok2; tok4; tok5; lent:@sends; lent:«waiting_numbers»; lent:waiting; lent:ready; lent:transmissions; lent:outstanding;
             -- lent:queued; the locals]
-            move ! (2 ∷ 19 ∷ 1 ∷ []) $ back-mut ! tt (Array u32 128) b (o + 124) ws-a.1.1.1.1.1.1.1.0 $ move ! (2 ∷ 17 ∷ []) $
+            move ! (2 ∷ 19 ∷ 1 ∷ []) $ back_mut ! tt (Array u32 128) b (o + 124) ws-a.1.1.1.1.1.1.1.0 $ move ! (2 ∷ 17 ∷ []) $
             back_shr ! tt full_share (Array u32 32) b (o + 636) h.outstanding $ move ! (3 ∷ 16 ∷ []) $
             back_shr ! tt full_share (Array u8 32) b (o + 764) h.transmissions $ move ! (4 ∷ 15 ∷ []) $
             back_shr ! tt full_share (Array u32 128) b (o + 796) h.ready $ move ! (5 ∷ 14 ∷ []) $
@@ -1117,19 +1117,19 @@ module _ {M : Type 1} {𝓤 : Ura M} (𝓛 : Logic 𝓤) (at_mem : Memory → SP
               ws-a.1.1.1.1.1.1.1.1.1.1.1.1.1.1.0,
               ws-a.1.1.1.1.1.1.1.0,
               a,
-              w-a,
-              e-a,
-              is-a,
+              w_a,
+              e_a,
+              is_a,
               len₁,
             ))))))))))));
       }
 
       -- part 7: what it knows, what it tells; what it has, and leaves
       abbrev Known₇ : Type 0
-      Known₇ = (a : Submitted) × (w-a : Val) × (Is submitted-row.the_row a (w-a ∷ []))
+      Known₇ = (a : Submitted) × (w_a : Val) × (Is submitted-row.the_row a (w_a ∷ []))
 
       abbrev New₇ : Known₇ → Type 0
-      New₇ past = (kf : Flight) × (w-kf : Val) × (e-kf : kf ≡ past.0.flight) × (Is flight-row.the_row kf (w-kf ∷ []))
+      New₇ past = (kf : Flight) × (w_kf : Val) × (e_kf : kf ≡ past.0.flight) × (Is flight-row.the_row kf (w_kf ∷ []))
 
       abbrev Has₇ : (ℕ → ℕ) → Known₇ → List (Item 𝓤) → List (Item 𝓤)
       Has₇ p past Γ = ‵ (fat full_share submitted-laws.mir (p 16) 0 (past.1)) ∷ ‵ (froom flight-laws.mir (p 17) 0) ∷ Γ
@@ -1144,24 +1144,24 @@ module _ {M : Type 1} {𝓤 : Ura M} (𝓛 : Logic 𝓤) (at_mem : Memory → SP
       part₇ {Γ = Γ} t p past on = record {
         prf =
             qed 𝓛 (Has₇ p past Γ) ∵ exec ! C Λ (En p) (behind 25 (code.function).body) (at_ret (En p) Post) $
-            nothing ! $ calls-fn ! fm flight-of.ended (flight-of.clauses 𝓛 at_mem run) known.6
+            nothing ! $ calls_fn ! fm flight-of.ended (flight-of.clauses 𝓛 at_mem run) known.6
             ((tt, tt, tt, (past.0, tt), (past.1 ∷ [], tt)), tt) (λ kf _. kf ≡ past.0.flight)
             (‵ ftrue) (plainly 𝓛 (submitted-row.the_row ∷ []) ((LL.makes submitted-row.the_type submitted-laws.the_plain 𝓛), tt)
             (past.0, tt) (past.1 ∷ [], tt) (past.2, tt)) (λ kf _. id⊢ 𝓤 _)
             (and_then ! (load ! (from ! (stop !)) (look ! 1 refl)) (no_more !))
-            (λ kf w-kf _ e-kf is-kf. drop ! $ drop ! $
-            land ! (from ! (stop !)) (init ! 1 refl ((LL.lawful flight-row.the_type flight-laws.the_laws 𝓛).typed kf (w-kf ∷ []) is-kf
+            (λ kf w_kf _ e_kf is-kf. drop ! $ drop ! $
+            land ! (from ! (stop !)) (init ! 1 refl ((LL.lawful flight-row.the_type flight-laws.the_laws 𝓛).typed kf (w_kf ∷ []) is-kf
             ).0) $
-            same ! (on (kf, w-kf, e-kf, is-kf)));
+            same ! (on (kf, w_kf, e_kf, is-kf)));
       }
 
       -- part 8: what it knows, what it tells; what it has, and leaves
       abbrev Known₈ : Type 0
-      Known₈ = (z-queued : List ℕ) × (a : Submitted) × (w-a : Val) × (is-a : Is submitted-row.the_row a (w-a ∷ [])) × (kf : Flight) ×
-          (w-kf : Val) × (Is flight-row.the_row kf (w-kf ∷ []))
+      Known₈ = (z_queued : List ℕ) × (a : Submitted) × (w_a : Val) × (is_a : Is submitted-row.the_row a (w_a ∷ [])) × (kf : Flight) ×
+          (w_kf : Val) × (Is flight-row.the_row kf (w_kf ∷ []))
 
       abbrev New₈ : Known₈ → Type 0
-      New₈ past = (r : ℤ) × (w-r : Val) × (e-r : r ≡ answerCode past.1.answer) × (Is i32 r (w-r ∷ []))
+      New₈ past = (r : ℤ) × (w_r : Val) × (e_r : r ≡ answer_code past.1.answer) × (Is i32 r (w_r ∷ []))
 
       abbrev Has₈ : (ℕ → ℕ) → Known₈ → List (Item 𝓤) → List (Item 𝓤)
       Has₈ p past Γ = ‵ (fat full_share submitted-laws.mir (p 16) 0 (past.2)) ∷ ‵ (fat full_share flight-laws.mir (p 17) 0 (past.5))
@@ -1176,7 +1176,7 @@ module _ {M : Type 1} {𝓤 : Ura M} (𝓛 : Logic 𝓤) (at_mem : Memory → SP
           ∷ ‵ (froom (ty_int w32) (p 0) 0) ∷ Γ
 
       abbrev Leaves₈ : (ℕ → ℕ) → (past : Known₈) → New₈ past → List (Item 𝓤) → List (Item 𝓤)
-      Leaves₈ p past new Γ = ‵ (link-own κ₀ b o γ
+      Leaves₈ p past new Γ = ‵ (link_own κ₀ b o γ
           (record {
             settings = h.settings;
             flight = past.4;
@@ -1201,23 +1201,23 @@ module _ {M : Type 1} {𝓤 : Ura M} (𝓛 : Logic 𝓤) (at_mem : Memory → SP
             qed 𝓛 (Has₈ p past Γ) ∵ exec ! C Λ (En p) (behind 26 (code.function).body) (at_ret (En p) Post) $
             move ! (11 ∷ []) $ cell_out ! full_share flight-row.the_row (LL.vals flight-row.the_type flight-laws.the_laws)
             (LL.tells flight-row.the_type flight-laws.the_laws) h.flight b (o + 16)
-            (λ was-flight'. assigns ! (of_opd ! (load ! (from ! (stop !)) (look ! 2 refl))) (place-flight ! (look ! 9 refl))
+            (λ was-flight'. assigns ! (of_opd ! (load ! (from ! (stop !)) (look ! 2 refl))) (place_flight ! (look ! 9 refl))
             (store_raw ! 0 refl ((LL.lawful flight-row.the_type flight-laws.the_laws 𝓛).typed past.4 (past.5 ∷ []) past.6
             ).0) $ cell_in ! full_share flight-row.the_row (LL.makes flight-row.the_type flight-laws.the_plain 𝓛) past.4 b (o + 16)
             past.5 past.6 $ move ! (8 ∷ []) $
-            tells-length ! full_share u32 128 past.0 b (o + 124)
-            (λ end-queued. move ! (8 ∷ []) $
-            tells-length ! full_share u32 32 h.outstanding b (o + 636)
-            (λ end-outstanding. move ! (8 ∷ []) $
-            tells-length ! full_share u8 32 h.transmissions b (o + 764)
-            (λ end-transmissions. move ! (8 ∷ []) $
-            tells-length ! full_share u32 128 h.ready b (o + 796)
-            (λ end-ready. move ! (8 ∷ []) $
-            tells-length ! full_share u32 128 h.waiting b (o + 1308)
-            (λ end-waiting. move ! (8 ∷ []) $
-            tells-length ! full_share u32 128 h.waiting_numbers b (o + 1820)
+            tells_length ! full_share u32 128 past.0 b (o + 124)
+            (λ end_queued. move ! (8 ∷ []) $
+            tells_length ! full_share u32 32 h.outstanding b (o + 636)
+            (λ end_outstanding. move ! (8 ∷ []) $
+            tells_length ! full_share u8 32 h.transmissions b (o + 764)
+            (λ end_transmissions. move ! (8 ∷ []) $
+            tells_length ! full_share u32 128 h.ready b (o + 796)
+            (λ end_ready. move ! (8 ∷ []) $
+            tells_length ! full_share u32 128 h.waiting b (o + 1308)
+            (λ end_waiting. move ! (8 ∷ []) $
+            tells_length ! full_share u32 128 h.waiting_numbers b (o + 1820)
             (λ end-waiting-numbers. move ! (12 ∷ 6 ∷ 11 ∷ 10 ∷ 5 ∷ 4 ∷ 3 ∷ 2 ∷ 1 ∷ 0 ∷ 13 ∷ 14 ∷ []) $
-            closes-link b o γ ! tt h (record {
+            closes_link b o γ ! tt h (record {
               settings = h.settings;
               flight = past.4;
               arrival = h.arrival;
@@ -1231,13 +1231,13 @@ module _ {M : Type 1} {𝓤 : Ura M} (𝓛 : Logic 𝓤) (at_mem : Memory → SP
               waiting_numbers = h.waiting_numbers;
             }) $
             -- [own0; tok0; the locals]
-            nothing ! $ calls-fn ! fm code_of_lem.ended (code_of_lem.clauses 𝓛 at_mem run) known.7
-            ((tt, tt, tt, (past.1, tt), (past.2 ∷ [], tt)), tt) (λ r _. r ≡ answerCode past.1.answer)
+            nothing ! $ calls_fn ! fm code_of_lem.ended (code_of_lem.clauses 𝓛 at_mem run) known.7
+            ((tt, tt, tt, (past.1, tt), (past.2 ∷ [], tt)), tt) (λ r _. r ≡ answer_code past.1.answer)
             (‵ ftrue) (plainly 𝓛 (submitted-row.the_row ∷ []) ((LL.makes submitted-row.the_type submitted-laws.the_plain 𝓛), tt)
             (past.1, tt) (past.2 ∷ [], tt) (past.3, tt)) (λ r _. id⊢ 𝓤 _)
             (and_then ! (load ! (from ! (stop !)) (look ! 3 refl)) (no_more !))
-            (λ r w-r _ e-r is-r. drop ! $ drop ! $ land ! (from ! (stop !)) (init ! 5 refl ((sint_Lawful 𝓛 w32).typed r _ is-r).0) $
-            same ! (on (r, w-r, e-r, is-r))))))))));
+            (λ r w_r _ e_r is_r. drop ! $ drop ! $ land ! (from ! (stop !)) (init ! 5 refl ((sint_Lawful 𝓛 w32).typed r _ is_r).0) $
+            same ! (on (r, w_r, e_r, is_r))))))))));
       }
 
       walk : ent 𝓤 (on_entry 𝓛 f.signature (κ₀, (κ₁, (κ₂, (κ₃, (κ₄, (κ₅, tt)))))) (q₀, (q₁, (q₂, (q₃, (q₄, (q₅, tt))))))
@@ -1253,7 +1253,7 @@ module _ {M : Type 1} {𝓤 : Ura M} (𝓛 : Logic 𝓤) (at_mem : Memory → SP
           pass1 ! (init ! 29 refl (tt, (tt, (record { fits = room₃.0 }, tt)))) $
           pass1 ! (init ! 28 refl (tt, (tt, (record { fits = room₄.0 }, tt)))) $
           pass1 ! (init ! 27 refl (tt, (tt, (record { fits = room₅.0 }, tt)))) $ pass0 ! $
-          move ! (35 ∷ []) $ spread 𝓛 (‵ ((MutRef (named 0) κ₀ L).own_val (ref-at b o γ h) (vptr b o ∷ [])))
+          move ! (35 ∷ []) $ spread 𝓛 (‵ ((MutRef (named 0) κ₀ L).own_val (ref_at b o γ h) (vptr b o ∷ [])))
           (‵ ((MutSlice (named 1) κ₁ u8).own_val (x₁) (s₁ ∷ [])) ∷ ‵ ((ShrSlice (named 2) κ₂ u8).own_val (x₂) (s₂ ∷ []))
           ∷ ‵ ((ShrSlice (named 3) κ₃ R).own_val (x₃) (s₃ ∷ [])) ∷ ‵ ((ShrSlice (named 4) κ₄ u32).own_val (x₄) (s₄ ∷ []))
           ∷ ‵ ((ShrSlice (named 5) κ₅ u8).own_val (x₅) (s₅ ∷ [])) ∷ ‵ ftrue ∷ []) (id⊢ 𝓤 _) $ move ! (41 ∷ []) $
@@ -1337,15 +1337,15 @@ module _ {M : Type 1} {𝓤 : Ura M} (𝓛 : Logic 𝓤) (at_mem : Memory → SP
             waiting = h.waiting;
             waiting_numbers = h.waiting_numbers;
           }) (new₆.0)
-          (told answerCode _ new₆.2.answer new₈.2
-          (rw new₇.2 (send-promised h (parts_of x₁.now x₂.now x₃.now x₄.now)
-          (padded (gathered (take sendSlots x₃.now) (slotsIn h.outstanding h.flight.outstanding))) new₅.0
+          (told answer_code _ new₆.2.answer new₈.2
+          (rw new₇.2 (send_promised h (parts_of x₁.now x₂.now x₃.now x₄.now)
+          (padded (gathered (take send_slots x₃.now) (slots_in h.outstanding h.flight.outstanding))) new₅.0
           (gathers h (parts_of x₁.now x₂.now x₃.now x₄.now) h.flight.outstanding
-          (padded (gathered (take sendSlots x₃.now) (slotsIn h.outstanding h.flight.outstanding))) new₅.0 refl refl
+          (padded (gathered (take send_slots x₃.now) (slots_in h.outstanding h.flight.outstanding))) new₅.0 refl refl
           new₅.2) new₆.2.answer (link_of h.settings new₆.2.flight h.arrival h.clock
           (arrays new₆.1 h.outstanding h.transmissions h.ready h.waiting h.waiting_numbers)) new₆.0 x₅.now
-          (new₆.4 (padded (gathered (take sendSlots x₃.now) (slotsIn h.outstanding h.flight.outstanding)))
-          (record { whole = padded-whole (take sendSlots x₃.now) h.outstanding h.flight.outstanding; fits = new₄.12 })))))
+          (new₆.4 (padded (gathered (take send_slots x₃.now) (slots_in h.outstanding h.flight.outstanding)))
+          (record { whole = padded_whole (take send_slots x₃.now) h.outstanding h.flight.outstanding; fits = new₄.12 })))))
           new₆.6 new₈.3))))))))))
 
   f_meets : (𝓣 : Tables 𝓤 H) → Known 𝓣.C
@@ -1389,9 +1389,9 @@ module _ {M : Type 1} {𝓤 : Ura M} (𝓛 : Logic 𝓤) (at_mem : Memory → SP
       are.1.0.0.1 a.1.1.0 are.1.1.0.0.1 a.1.1.1.0 are.1.1.1.0.0.1 a.1.1.1.1.0
       are.1.1.1.1.0.0.1 a.1.1.1.1.1.0 are.1.1.1.1.1.0.0.1 𝓣.C 𝓣.Λ (fm_of 𝓤 H 𝓛.laws 𝓣) known)))
 
-pub send-spec : {M : Type 1} → stated.statement M
+pub send_spec : {M : Type 1} → stated.statement M
 unfolding code.routine tables_of
-send-spec 𝓤 𝓛 𝓜 𝓡 =
+send_spec 𝓤 𝓛 𝓜 𝓡 =
     entered 𝓤 𝓛.H (triple_of 𝓛 f.signature (f.spec 𝓛 𝓜.mem 𝓡.run))
     (tables 𝓤 𝓛.H 𝓜 𝓡 code.env).C (tables 𝓤 𝓛.H 𝓜 𝓡 code.env).Λ #f code.function (code.unfolded 𝓤 𝓛.H 𝓜 𝓡)
     (f_meets 𝓛 𝓜.mem 𝓡.run (tables_of 𝓤 𝓛.H 𝓜 (tables 𝓤 𝓛.H 𝓜 𝓡 code.env)) (

@@ -4,28 +4,28 @@ use mathlib.Core.Path.{◌≡◌, refl}
 use Prim.Native.Nat.{◌-◌, ◌<◌}
 use native.Mathlib.Omega.{arith}
 use borrow.Author.Rules.{rules}
-use Rattle.marks.specs.Marks.{nextFree}
-use Rattle.marks.proofs.Frees.{slot-low, free_more, further, free-stop}
+use Rattle.marks.specs.Marks.{next_free}
+use Rattle.marks.proofs.Frees.{slot_low, free_more, further, free_stop}
 use Rattle.marks.proofs.free_to_send.Statement.{statement}
 use Rattle.marks.proofs.free_to_send.Tie as tie
 
 abbrev invariant-loop : tie.invariant-loop
-invariant-loop marks from next₀ next = (nextFree marks from < 128) × (nextFree marks from ≡ nextFree marks next) × (next < 128)
+invariant-loop marks from next₀ next = (next_free marks from < 128) × (next_free marks from ≡ next_free marks next) × (next < 128)
 
 abbrev decreases-loop : tie.decreases-loop
 decreases-loop marks from next₀ next = 128 - next
 
-pub free-to-send-spec : {M : Type 1} → statement M
-free-to-send-spec =
+pub free_to_send_spec : {M : Type 1} → statement M
+free_to_send_spec =
     tie.close
     (tie.spec
     invariant-loop
     decreases-loop
-    (λ c. search (rules, slot-low 128 c.args.marks.now c.args.from c.requires.2))
+    (λ c. search (rules, slot_low 128 c.args.marks.now c.args.from c.requires.2))
     (λ c.
     let s = c.before.before in
-    free-stop 128 s.args.marks.now s.args.from _ (omega arith) refl s.requires.2 c.if1.true)
-    (λ c. let s = c.before.before in (s.requires.2, refl, slot-low 128 s.args.marks.now s.args.from s.requires.2))
+    free_stop 128 s.args.marks.now s.args.from _ (omega arith) refl s.requires.2 c.if1.true)
+    (λ c. let s = c.before.before in (s.requires.2, refl, slot_low 128 s.args.marks.now s.args.from s.requires.2))
     (λ c. search rules)
     (λ c. search rules)
     (λ c. search rules)
@@ -39,5 +39,5 @@ free-to-send-spec =
     ))
     (λ c.
     let l = c.before.before in
-    free-stop 128 l.before.before.before.args.marks.now l.loop.next _ (omega arith) l.loop.invariant.1 l.loop.invariant.0
+    free_stop 128 l.before.before.before.args.marks.now l.loop.next _ (omega arith) l.loop.invariant.1 l.loop.invariant.0
     c.if2.false))

@@ -3,7 +3,7 @@
 use Prim.Native.Nat.{◌-◌, ◌≤◌}
 use native.Mathlib.Omega.{arith}
 use borrow.Author.Rules.{rules}
-use Rattle.marks.proofs.Turns.{Marking, marking-start, marking-next, marking-end}
+use Rattle.marks.proofs.Turns.{Marking, marking_start, marking_next, marking_end}
 use Rattle.marks.proofs.mark.Statement.{statement}
 use Rattle.marks.proofs.mark.Tie as tie
 
@@ -18,7 +18,7 @@ loop-again c =
     let start = c.before.before.before.before.before in
     let v = c.before.before.before.before.loop in (
       search rules,
-      marking-next v.invariant.1 c.before.slot_of.result c.before.slot_of.ensures.0
+      marking_next v.invariant.1 c.before.slot_of.result c.before.slot_of.ensures.0
           c.before.before.before.loop-test.true (omega (arith, start.requires)),
     )
 
@@ -28,7 +28,7 @@ mark_spec =
     (tie.spec
     invariant-loop
     decreases-loop
-    (λ c. (search rules, marking-start 256 _ _ _ c.requires.0))
+    (λ c. (search rules, marking_start 256 _ _ _ c.requires.0))
     (λ c. search rules)
     (λ c. search rules)
     (λ c κs. search rules)
@@ -37,4 +37,4 @@ mark_spec =
     (λ c. search rules)
     (λ c. search rules)
     loop-again
-    (λ c. marking-end c.before.loop.invariant.1 c.loop-test.false))
+    (λ c. marking_end c.before.loop.invariant.1 c.loop-test.false))

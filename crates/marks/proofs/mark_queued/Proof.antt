@@ -4,7 +4,7 @@ use mathlib.Core.Path.{sym}
 use Prim.Native.Nat.{◌-◌, ◌≤◌, ◌<◌}
 use native.Mathlib.Omega.{arith}
 use borrow.Author.Rules.{rules}
-use Rattle.marks.proofs.Turns.{Marking, marking-start, marking-next, marking-end, low-at}
+use Rattle.marks.proofs.Turns.{Marking, marking_start, marking_next, marking_end, low_at}
 use Rattle.marks.proofs.mark_queued.Statement.{statement}
 use Rattle.marks.proofs.mark_queued.Tie as tie
 
@@ -19,7 +19,7 @@ low : (c : tie.After-slot-of invariant-loop decreases-loop) → c.slot_of.result
 low c =
     let l = c.before.before.before in
     let start = l.before in
-    rw c.slot_of.ensures.0 (low-at 128 start.args.words.now start.args.n l.loop.i start.requires.3
+    rw c.slot_of.ensures.0 (low_at 128 start.args.words.now start.args.n l.loop.i start.requires.3
     c.before.before.loop-test.true (omega (arith, start.requires.1, start.requires.2)))
 
 loop-again : tie.Need-loop-preserved invariant-loop decreases-loop
@@ -27,17 +27,17 @@ loop-again c =
     let start = c.before.before.before.before.before in
     let v = c.before.before.before.before.loop in (
       search rules,
-      marking-next v.invariant.1 c.before.slot_of.result c.before.slot_of.ensures.0
+      marking_next v.invariant.1 c.before.slot_of.result c.before.slot_of.ensures.0
           c.before.before.before.loop-test.true (omega (arith, start.requires.1, start.requires.2)),
     )
 
-pub mark-queued-spec : {M : Type 1} → statement M
-mark-queued-spec =
+pub mark_queued_spec : {M : Type 1} → statement M
+mark_queued_spec =
     tie.close
     (tie.spec
     invariant-loop
     decreases-loop
-    (λ c. (search rules, marking-start 128 _ _ _ c.requires.0))
+    (λ c. (search rules, marking_start 128 _ _ _ c.requires.0))
     (λ c. search rules)
     (λ c. search rules)
     (λ c κs. search rules)
@@ -46,4 +46,4 @@ mark-queued-spec =
     (λ c. search rules)
     (λ c. search rules)
     loop-again
-    (λ c. marking-end c.before.loop.invariant.1 c.loop-test.false))
+    (λ c. marking_end c.before.loop.invariant.1 c.loop-test.false))

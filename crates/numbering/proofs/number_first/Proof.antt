@@ -2,7 +2,7 @@
 -- Assumes nothing.
 use Prim.Native.Nat.{◌-◌}
 use borrow.Author.Rules.{rules}
-use Rattle.numbering.proofs.NumberLaws.{Numbering, numbering_start, numbering-more, numbering-done}
+use Rattle.numbering.proofs.NumberLaws.{Numbering, numbering_start, numbering_more, numbering_done}
 use Rattle.numbering.proofs.number_first.Statement.{statement}
 use Rattle.numbering.proofs.number_first.Tie as tie
 
@@ -22,14 +22,14 @@ loop-again c =
     let made = c.before.before in
     let turn = made.before.before.before in
     let p = turn.before.before.requires in
-    numbering-more _ _ _ _ _ _ _ _ _ _ _ _ _ turn.before.loop.invariant _ _ _ p.0 p.4 turn.loop-test.true
+    numbering_more _ _ _ _ _ _ _ _ _ _ _ _ _ turn.before.loop.invariant _ _ _ p.0 p.4 turn.loop-test.true
     made.numbered-record.ensures c.before.put.ensures c.sum.ensures
 
 returns : tie.Need-returns invariant-loop decreases-loop
-returns c = numbering-done _ _ _ _ _ _ _ _ _ _ _ _ _ c.before.loop.invariant c.loop-test.false
+returns c = numbering_done _ _ _ _ _ _ _ _ _ _ _ _ _ c.before.loop.invariant c.loop-test.false
 
-pub number-first-spec : {M : Type 1} → statement M
-number-first-spec =
+pub number_first_spec : {M : Type 1} → statement M
+number_first_spec =
     tie.close
     (tie.spec
     invariant-loop

@@ -7,7 +7,7 @@ use native.Mathlib.Omega.{arith}
 use borrow.Author.Rules.{rules}
 use borrow.Author.Tests.{eq-eqb, ne_eqb}
 use Rattle.packing.specs.declared.Packer.{Packer}
-use Rattle.packing.specs.Packers.{closed, withLength, Finishes}
+use Rattle.packing.specs.Packers.{closed, with_length, Finishes}
 use Rattle.packing.proofs.finish.Statement.{statement}
 use Rattle.packing.proofs.finish.Tie as tie
 
@@ -15,7 +15,7 @@ module _ (k : Packer) (lengths : List ℕ) where
   empty : k.at ≡ k.start → Finishes k lengths k.count lengths
   empty e = record { number = omega arith; sizes = rw (eq-eqb k.at k.start e) }
 
-  last : (k' : Packer) (lengths' : List ℕ) → (k.at ≡ k.start → ⊥) → k.start ≤ k.at → k' ≡ closed k → lengths' ≡ withLength k lengths
+  last : (k' : Packer) (lengths' : List ℕ) → (k.at ≡ k.start → ⊥) → k.start ≤ k.at → k' ≡ closed k → lengths' ≡ with_length k lengths
       → Finishes k lengths k'.count lengths'
   last k' lengths' e h p q = record { number = rw p (omega arith); sizes = rw (ne_eqb k.at k.start e) q }
 

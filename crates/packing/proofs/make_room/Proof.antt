@@ -6,7 +6,7 @@ use mathlib.Core.List.{List}
 use Prim.Native.Nat.{ℕ}
 use borrow.Author.Rules.{rules}
 use Rattle.packing.specs.declared.Packer.{Packer}
-use Rattle.packing.specs.Packers.{fits, closed, withLength, MakesRoom}
+use Rattle.packing.specs.Packers.{fits, closed, with_length, MakesRoom}
 use Rattle.packing.proofs.make_room.Statement.{statement}
 use Rattle.packing.proofs.make_room.Tie as tie
 
@@ -14,12 +14,12 @@ module _ (mtu n : ℕ) (k : Packer) (lengths : List ℕ) where
   fitting : fits mtu n k ≡ true → MakesRoom mtu n k lengths k lengths
   fitting e = record { packer = rw e; sizes = rw e }
 
-  closing : (k' : Packer) (lengths' : List ℕ) → fits mtu n k ≡ false → k' ≡ closed k → lengths' ≡ withLength k lengths
+  closing : (k' : Packer) (lengths' : List ℕ) → fits mtu n k ≡ false → k' ≡ closed k → lengths' ≡ with_length k lengths
       → MakesRoom mtu n k lengths k' lengths'
   closing k' lengths' e p q = record { packer = rw e p; sizes = rw e q }
 
-pub make-room-spec : {M : Type 1} → statement M
-make-room-spec =
+pub make_room_spec : {M : Type 1} → statement M
+make_room_spec =
     tie.close
     (tie.spec
     (search rules)

@@ -8,5 +8,5 @@ use Rattle.packing.proofs.put_control.Tie as tie
 returns : tie.Need-returns
 returns c = rw append-nil c.before.before.before.before.put-header.ensures
 
-pub put-control-spec : {M : Type 1} → statement M
-put-control-spec = tie.close (tie.spec (search rules) (search rules) (search rules) returns)
+pub put_control_spec : {M : Type 1} → statement M
+put_control_spec = tie.close (tie.spec (search rules) (search rules) (search rules) returns)

@@ -8,8 +8,8 @@ use borrow.Author.Rules.{rules}
 use lib.ListN.{length, length-append, length-take, length-drop}
 use lib.Seq.{sets}
 use Rattle.wire.specs.Headers.{encode}
-use Rattle.wire.specs.HeaderLaws.{length-encode}
-use Rattle.wire.specs.Stores.{sets-append}
+use Rattle.wire.specs.HeaderLaws.{length_encode}
+use Rattle.wire.specs.Stores.{sets_append}
 use Rattle.wire.specs.declared.Header.{Header}
 use Rattle.pools.specs.Parts.{part}
 use Rattle.packing.specs.declared.Packer.{Packer}
@@ -17,16 +17,16 @@ use Rattle.packing.specs.Packers.{Puts}
 use Rattle.packing.proofs.put_data.Statement.{statement}
 use Rattle.packing.proofs.put_data.Tie as tie
 
-payload-puts : (mtu n : ℕ) (h : Header) (k q : Packer) (out lengths headed lengths' out' pool : List ℕ) (from len : ℕ)
+payload_puts : (mtu n : ℕ) (h : Header) (k q : Packer) (out lengths headed lengths' out' pool : List ℕ) (from len : ℕ)
     → Puts mtu n (encode h) k out lengths q headed lengths' → out' ≡ sets headed (k.at + 24) (part pool from len) → from
     + len ≤ length pool
     → Puts mtu n (encode h ++ part pool from len) k out lengths (record { at = k.at + 24 + len; start = q.start; count = q.count }) out'
     lengths'
-payload-puts mtu n h k q out lengths headed lengths' out' pool from len p e enough =
+payload_puts mtu n h k q out lengths headed lengths' out' pool from len p e enough =
     let size : length (part pool from len) ≡ len = simp (length-take, length-drop) (omega arith) in
     record {
-      output = e ∙ rw (sets-append, length-encode, p.output);
-      at = rw (length-append, length-encode, size) (omega arith);
+      output = e ∙ rw (sets_append, length_encode, p.output);
+      at = rw (length-append, length_encode, size) (omega arith);
       start = p.start;
       count = p.count;
       sizes = p.sizes;
@@ -37,10 +37,10 @@ returns c =
     let copied = c.before.before in
     let headed = copied.before.before.before.before.before.before in
     let entry = headed.before.before.before.before.before.before.before.before.before.before.before in
-    payload-puts _ _ _ _ _ _ _ _ _ _ _ _ _ headed.put-header.ensures copied.copy-part.ensures entry.requires.2
+    payload_puts _ _ _ _ _ _ _ _ _ _ _ _ _ headed.put-header.ensures copied.copy-part.ensures entry.requires.2
 
-pub put-data-spec : {M : Type 1} → statement M
-put-data-spec =
+pub put_data_spec : {M : Type 1} → statement M
+put_data_spec =
     tie.close
     (tie.spec
     (search rules)

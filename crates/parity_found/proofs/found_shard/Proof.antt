@@ -5,22 +5,22 @@ use Prim.Native.Nat.{ℕ, ◌+◌, ◌-◌, ◌≤◌, ◌<◌}
 use native.Mathlib.Omega.{arith}
 use borrow.Author.Rules.{rules}
 use lib.ListN.{length, get_or, take, drop}
-use Rattle.frames.specs.Lists.{listed, lengthsOf, largest}
-use Rattle.frames.specs.Outcomes.{lengthsOk}
-use Rattle.frames.specs.Reading.{datagramAt, found, len_at}
-use Rattle.parity_scan.specs.Held.{shardIn}
-use Rattle.parity_found.specs.Ready.{lenIn, datagramIn}
-use Rattle.parity_found.specs.ReadyLaws.{whole-first, whole-second, whole-held}
+use Rattle.frames.specs.Lists.{listed, lengths_of, largest}
+use Rattle.frames.specs.Outcomes.{lengths_ok}
+use Rattle.frames.specs.Reading.{datagram_at, found, len_at}
+use Rattle.parity_scan.specs.Held.{shard_in}
+use Rattle.parity_found.specs.Ready.{len_in, datagram_in}
+use Rattle.parity_found.specs.ReadyLaws.{whole_first, whole_second, whole_held}
 use Rattle.parity_found.specs.FoundLaws.{
-  lengths-good,
+  lengths_good,
   lengths_short,
-  lengths-long,
-  largest-next,
-  length-datagram,
-  lens-least,
-  found-most,
-  whole-len,
-  whole-trimmed,
+  lengths_long,
+  largest_next,
+  length_datagram,
+  lens_least,
+  found_most,
+  whole_len,
+  whole_trimmed,
 }
 use Rattle.parity_found.proofs.found_shard.Statement.{statement}
 use Rattle.parity_found.proofs.found_shard.Tie as tie
@@ -30,11 +30,11 @@ span : (a n : ℕ) → a + n - a ≡ n
 span a n = omega arith
 
 returns : tie.Need-returns
-returns c = whole-first c.before.before.args.g c.before.before.args.s.now c.before.before.args.a.now
+returns c = whole_first c.before.before.args.g c.before.before.args.s.now c.before.before.args.a.now
     c.before.before.args.b.now c.before.before.requires.0 c.before.before.args.p c.before.before.requires.1 c.if1.true
 
 returns-2 : tie.Need-returns-2
-returns-2 c = whole-second c.before.before.before.before.args.g c.before.before.before.before.args.s.now
+returns-2 c = whole_second c.before.before.before.before.args.g c.before.before.before.before.args.s.now
     c.before.before.before.before.args.a.now c.before.before.before.before.args.b.now
     c.before.before.before.before.requires.0 c.before.before.before.before.args.p c.before.before.before.before.requires.1
     c.if2.true
@@ -49,7 +49,7 @@ part-result-end c = let i = c.before.before.before.before.before.before.before.r
 
 returns-3 : tie.Need-returns-3
 returns-3 c =
-    whole-held c.before.before.before.before.before.before.before.before.args.g
+    whole_held c.before.before.before.before.before.before.before.before.args.g
     c.before.before.before.before.before.before.before.before.args.s.now
     c.before.before.before.before.before.before.before.before.args.a.now
     c.before.before.before.before.before.before.before.before.args.b.now
@@ -62,8 +62,8 @@ returns-3 c =
     (get_or c.before.before.before.before.before.before.before.before.args.g.held.size
     c.before.before.before.before.before.before.before.before.args.p 0))
 
-pub found-shard-spec : {M : Type 1} → statement M
-found-shard-spec =
+pub found_shard_spec : {M : Type 1} → statement M
+found_shard_spec =
     tie.close
     (tie.spec
     returns

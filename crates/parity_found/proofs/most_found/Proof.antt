@@ -5,54 +5,54 @@ use Prim.Native.Nat.{ℕ, ◌+◌, ◌-◌, ◌≤◌, ◌<◌}
 use native.Mathlib.Omega.{arith}
 use borrow.Author.Rules.{rules}
 use lib.ListN.{length, get_or, take, drop}
-use Rattle.frames.specs.Lists.{listed, lengthsOf, largest}
-use Rattle.frames.specs.Outcomes.{lengthsOk}
-use Rattle.frames.specs.Reading.{datagramAt, found, len_at}
-use Rattle.parity_scan.specs.Held.{shardIn}
-use Rattle.parity_found.specs.Ready.{lenIn, datagramIn}
-use Rattle.parity_found.specs.ReadyLaws.{whole-first, whole-second, whole-held}
+use Rattle.frames.specs.Lists.{listed, lengths_of, largest}
+use Rattle.frames.specs.Outcomes.{lengths_ok}
+use Rattle.frames.specs.Reading.{datagram_at, found, len_at}
+use Rattle.parity_scan.specs.Held.{shard_in}
+use Rattle.parity_found.specs.Ready.{len_in, datagram_in}
+use Rattle.parity_found.specs.ReadyLaws.{whole_first, whole_second, whole_held}
 use Rattle.parity_found.specs.FoundLaws.{
-  lengths-good,
+  lengths_good,
   lengths_short,
-  lengths-long,
-  largest-next,
-  length-datagram,
-  lens-least,
-  found-most,
-  whole-len,
-  whole-trimmed,
+  lengths_long,
+  largest_next,
+  length_datagram,
+  lens_least,
+  found_most,
+  whole_len,
+  whole_trimmed,
 }
 use Rattle.parity_found.proofs.most_found.Statement.{statement}
 use Rattle.parity_found.proofs.most_found.Tie as tie
 
 abbrev invariant-loop : tie.invariant-loop
-invariant-loop g s a b most₀ p₀ most p = (p ≤ g.k) × (most ≡ largest (lengthsOf (listed (datagramIn g s) p))) × (most < 65536)
+invariant-loop g s a b most₀ p₀ most p = (p ≤ g.k) × (most ≡ largest (lengths_of (listed (datagram_in g s) p))) × (most < 65536)
 
 abbrev decreases-loop : tie.decreases-loop
 decreases-loop g s a b most₀ p₀ most p = g.k - p
 
 loop-holds : tie.Need-loop-init invariant-loop decreases-loop
-unfolding listed lengthsOf largest
+unfolding listed lengths_of largest
 loop-holds c = (omega arith, refl, omega arith)
 
 loop-again : tie.Need-loop-preserved invariant-loop decreases-loop
 loop-again c =
-    let n = largest-next (datagramAt c.before.before.before.before.before.before.before.before.args.g.k
-    (shardIn c.before.before.before.before.before.before.before.before.args.s.now
+    let n = largest_next (datagram_at c.before.before.before.before.before.before.before.before.args.g.k
+    (shard_in c.before.before.before.before.before.before.before.before.args.s.now
     c.before.before.before.before.before.before.before.before.args.g.held)) c.before.before.before.before.loop.p in
-    let l = length-datagram c.before.before.before.before.before.before.before.before.args.g.k
-    (shardIn c.before.before.before.before.before.before.before.before.args.s.now
+    let l = length_datagram c.before.before.before.before.before.before.before.before.args.g.k
+    (shard_in c.before.before.before.before.before.before.before.before.args.s.now
     c.before.before.before.before.before.before.before.before.args.g.held) c.before.before.before.before.loop.p
     c.before.len_of.result c.before.len_of.ensures.0 in
     (omega arith, omega (arith, n, l, c.before.before.before.before.loop.invariant.1), omega (arith, c.before.len_of.ensures.1))
 
 loop-again-2 : tie.Need-loop-preserved-2 invariant-loop decreases-loop
 loop-again-2 c =
-    let n = largest-next (datagramAt c.before.before.before.before.before.before.before.before.args.g.k
-    (shardIn c.before.before.before.before.before.before.before.before.args.s.now
+    let n = largest_next (datagram_at c.before.before.before.before.before.before.before.before.args.g.k
+    (shard_in c.before.before.before.before.before.before.before.before.args.s.now
     c.before.before.before.before.before.before.before.before.args.g.held)) c.before.before.before.before.loop.p in
-    let l = length-datagram c.before.before.before.before.before.before.before.before.args.g.k
-    (shardIn c.before.before.before.before.before.before.before.before.args.s.now
+    let l = length_datagram c.before.before.before.before.before.before.before.before.args.g.k
+    (shard_in c.before.before.before.before.before.before.before.before.args.s.now
     c.before.before.before.before.before.before.before.before.args.g.held) c.before.before.before.before.loop.p
     c.before.len_of.result c.before.len_of.ensures.0 in
     (omega arith, omega (arith, n, l, c.before.before.before.before.loop.invariant.1), omega arith)
@@ -62,14 +62,14 @@ unfolding found
 returns c =
     let e : c.before.before.loop.p ≡ c.before.before.before.before.before.before.args.g.k = omega arith in (
       c.before.before.loop.invariant.1 ∙ ap (λ (n : ℕ). largest
-          (lengthsOf (listed (datagramAt c.before.before.before.before.before.before.args.g.k
-          (shardIn c.before.before.before.before.before.before.args.s.now
+          (lengths_of (listed (datagram_at c.before.before.before.before.before.before.args.g.k
+          (shard_in c.before.before.before.before.before.before.args.s.now
           c.before.before.before.before.before.before.args.g.held)) n))) e,
       c.before.before.loop.invariant.2,
     )
 
-pub most-found-spec : {M : Type 1} → statement M
-most-found-spec =
+pub most_found_spec : {M : Type 1} → statement M
+most_found_spec =
     tie.close
     (tie.spec
     invariant-loop

@@ -8,46 +8,46 @@ use native.Mathlib.Omega.{arith}
 use borrow.Author.Rules.{rules}
 use lib.ListN.{length, get_or, take, drop}
 use lib.Seq.{length-take-le}
-use Rattle.frames.specs.Lists.{parts, lengthsOf, every}
-use Rattle.frames.specs.Outcomes.{settingsOk, lentOk, lengthsOk}
-use Rattle.frames.specs.Reading.{found, holds, frameOk, firstGroup, readGroup, read_of}
+use Rattle.frames.specs.Lists.{parts, lengths_of, every}
+use Rattle.frames.specs.Outcomes.{settings_ok, lent_ok, lengths_ok}
+use Rattle.frames.specs.Reading.{found, holds, frame_ok, first_group, read_group, read_of}
 use Rattle.frames.specs.declared.Refusal.TheVariants.{ShortPart, SettingOutOfRange, NotAGroup, TooFewFrames}
 use Rattle.frames.specs.OutcomeLaws.{and_left, refusing, writing}
-use Rattle.parity_scan.specs.Held.{shardIn, sized, Gathered, Scans}
+use Rattle.parity_scan.specs.Held.{shard_in, sized, Gathered, Scans}
 use Rattle.parity_restore.specs.Restored.{Restored}
-use Rattle.parity_found.specs.Ready.{foundIn, Ready}
+use Rattle.parity_found.specs.Ready.{found_in, Ready}
 use Rattle.parity_found.specs.FoundLaws.{length_found}
 use Rattle.parity_reader.specs.CallLaws.{
   within,
   ready,
-  after-22,
-  after-21,
-  after-all,
-  first-prefix,
-  second-prefix,
+  after_22,
+  after_21,
+  after_all,
+  first_prefix,
+  second_prefix,
   whole,
   roomy,
   slotted,
   few,
   small,
   passed,
-  read-7,
-  read-12,
-  read-21,
-  read-rest,
+  read_7,
+  read_12,
+  read_21,
+  read_rest,
   carried,
 }
 use Rattle.parity_reader.proofs.read_held.Statement.{statement}
 use Rattle.parity_reader.proofs.read_held.Tie as tie
 
 returns : tie.Need-returns
-returns c = refusing (readGroup c.before.before.before.before.before.before.args.k
+returns c = refusing (read_group c.before.before.before.before.before.before.args.k
     c.before.before.before.before.before.before.args.mtu c.before.before.before.before.before.before.args.group
     (parts c.before.before.before.before.before.before.args.s.now
     c.before.before.before.before.before.before.args.lengths.now)) TooFewFrames
     c.before.before.before.before.before.before.args.out.now
     c.before.before.before.before.before.before.args.out-lengths.now
-    (after-22 c.before.before.before.before.before.before.args.k c.before.before.before.before.before.before.args.mtu
+    (after_22 c.before.before.before.before.before.before.args.k c.before.before.before.before.before.before.args.mtu
     c.before.before.before.before.before.before.args.group c.before.before.before.before.before.before.args.s.now
     c.before.before.before.before.before.before.args.lengths.now c.before.before.before.before.before.before.args.h
     c.before.before.before.before.before.before.requires.3 c.before.before.before.before.before.before.requires.4
@@ -121,9 +121,9 @@ array-share-prefix-a c =
       c.before.before.before.before.before.before.blank.ensures,
       c.before.before.before.before.before.before.before.before.before.before.before.before.before.before.before.requires.1,
     ) in
-    (first-prefix c.before.before.before.before.before.before.before.before.before.before.before.before.before.before.before.args.k c.before.before.before.before.before.before.before.before.other-lost.result
+    (first_prefix c.before.before.before.before.before.before.before.before.before.before.before.before.before.before.before.args.k c.before.before.before.before.before.before.before.before.other-lost.result
     c.before.before.before.before.before.before.before.other-lost2.result _
-    (c.before.before.before.before.before.before.before.before.before.before.before.before.before.before.before.args.mtu + 2) (shardIn c.before.before.before.before.before.before.before.before.before.before.before.before.before.before.before.args.s.now c.before.before.before.before.before.before.before.before.before.before.before.before.before.before.before.args.h) _ _ _ c.before.before.restore.ensures
+    (c.before.before.before.before.before.before.before.before.before.before.before.before.before.before.before.args.mtu + 2) (shard_in c.before.before.before.before.before.before.before.before.before.before.before.before.before.before.before.args.s.now c.before.before.before.before.before.before.before.before.before.before.before.before.before.before.before.args.h) _ _ _ c.before.before.restore.ensures
     (length-take-le (c.before.before.before.before.before.before.before.before.before.before.before.before.before.before.before.args.mtu + 2) c.before.before.before.before.before.before.blank.result la)).0
 
 slice-aggregate-verified : tie.Need-slice-aggregate-verified
@@ -134,9 +134,9 @@ slice-aggregate-verified c =
       c.before.before.before.before.before.before.before.blank.ensures,
       c.before.before.before.before.before.before.before.before.before.before.before.before.before.before.before.before.requires.1,
     ) in
-    (first-prefix c.before.before.before.before.before.before.before.before.before.before.before.before.before.before.before.before.args.k c.before.before.before.before.before.before.before.before.before.other-lost.result
+    (first_prefix c.before.before.before.before.before.before.before.before.before.before.before.before.before.before.before.before.args.k c.before.before.before.before.before.before.before.before.before.other-lost.result
     c.before.before.before.before.before.before.before.before.other-lost2.result _
-    (c.before.before.before.before.before.before.before.before.before.before.before.before.before.before.before.before.args.mtu + 2) (shardIn c.before.before.before.before.before.before.before.before.before.before.before.before.before.before.before.before.args.s.now c.before.before.before.before.before.before.before.before.before.before.before.before.before.before.before.before.args.h) _ _ _ c.before.before.before.restore.ensures
+    (c.before.before.before.before.before.before.before.before.before.before.before.before.before.before.before.before.args.mtu + 2) (shard_in c.before.before.before.before.before.before.before.before.before.before.before.before.before.before.before.before.args.s.now c.before.before.before.before.before.before.before.before.before.before.before.before.before.before.before.before.args.h) _ _ _ c.before.before.before.restore.ensures
     (length-take-le (c.before.before.before.before.before.before.before.before.before.before.before.before.before.before.before.before.args.mtu + 2) c.before.before.before.before.before.before.before.blank.result la)).1
 
 array-share-prefix-b : tie.Need-array-share-prefix-b
@@ -147,9 +147,9 @@ array-share-prefix-b c =
       c.before.before.before.before.before.before.before.blank.ensures,
       c.before.before.before.before.before.before.before.before.before.before.before.before.before.before.before.before.requires.1,
     ) in
-    (second-prefix c.before.before.before.before.before.before.before.before.before.before.before.before.before.before.before.before.args.k c.before.before.before.before.before.before.before.before.before.other-lost.result
+    (second_prefix c.before.before.before.before.before.before.before.before.before.before.before.before.before.before.before.before.args.k c.before.before.before.before.before.before.before.before.before.other-lost.result
     c.before.before.before.before.before.before.before.before.other-lost2.result _
-    (c.before.before.before.before.before.before.before.before.before.before.before.before.before.before.before.before.args.mtu + 2) (shardIn c.before.before.before.before.before.before.before.before.before.before.before.before.before.before.before.before.args.s.now c.before.before.before.before.before.before.before.before.before.before.before.before.before.before.before.before.args.h) _ _ _ c.before.before.before.restore.ensures
+    (c.before.before.before.before.before.before.before.before.before.before.before.before.before.before.before.before.args.mtu + 2) (shard_in c.before.before.before.before.before.before.before.before.before.before.before.before.before.before.before.before.args.s.now c.before.before.before.before.before.before.before.before.before.before.before.before.before.before.before.before.args.h) _ _ _ c.before.before.before.restore.ensures
     (length-take-le (c.before.before.before.before.before.before.before.before.before.before.before.before.before.before.before.before.args.mtu + 2) c.before.before.before.before.before.before.before.blank.result la)).0
 
 slice-aggregate-verified-2 : tie.Need-slice-aggregate-verified-2
@@ -160,9 +160,9 @@ slice-aggregate-verified-2 c =
       c.before.before.before.before.before.before.before.before.blank.ensures,
       c.before.before.before.before.before.before.before.before.before.before.before.before.before.before.before.before.before.requires.1,
     ) in
-    (second-prefix c.before.before.before.before.before.before.before.before.before.before.before.before.before.before.before.before.before.args.k c.before.before.before.before.before.before.before.before.before.before.other-lost.result
+    (second_prefix c.before.before.before.before.before.before.before.before.before.before.before.before.before.before.before.before.before.args.k c.before.before.before.before.before.before.before.before.before.before.other-lost.result
     c.before.before.before.before.before.before.before.before.before.other-lost2.result _
-    (c.before.before.before.before.before.before.before.before.before.before.before.before.before.before.before.before.before.args.mtu + 2) (shardIn c.before.before.before.before.before.before.before.before.before.before.before.before.before.before.before.before.before.args.s.now
+    (c.before.before.before.before.before.before.before.before.before.before.before.before.before.before.before.before.before.args.mtu + 2) (shard_in c.before.before.before.before.before.before.before.before.before.before.before.before.before.before.before.before.before.args.s.now
     c.before.before.before.before.before.before.before.before.before.before.before.before.before.before.before.before.before.args.h) _ _ _ c.before.before.before.before.restore.ensures
     (length-take-le (c.before.before.before.before.before.before.before.before.before.before.before.before.before.before.before.before.before.args.mtu + 2) c.before.before.before.before.before.before.before.before.blank.result la)).1
 
@@ -202,11 +202,11 @@ array-share-prefix-a-2 c =
       c.before.before.before.before.before.before.before.before.before.before.blank.ensures,
       c.before.before.before.before.before.before.before.before.before.before.before.before.before.before.before.before.before.before.before.requires.1,
     ) in
-    (first-prefix c.before.before.before.before.before.before.before.before.before.before.before.before.before.before.before.before.before.before.before.args.k
+    (first_prefix c.before.before.before.before.before.before.before.before.before.before.before.before.before.before.before.before.before.before.before.args.k
     c.before.before.before.before.before.before.before.before.before.before.before.before.other-lost.result
     c.before.before.before.before.before.before.before.before.before.before.before.other-lost2.result _
     (c.before.before.before.before.before.before.before.before.before.before.before.before.before.before.before.before.before.before.before.args.mtu
-    + 2) (shardIn c.before.before.before.before.before.before.before.before.before.before.before.before.before.before.before.before.before.before.before.args.s.now
+    + 2) (shard_in c.before.before.before.before.before.before.before.before.before.before.before.before.before.before.before.before.before.before.before.args.s.now
     c.before.before.before.before.before.before.before.before.before.before.before.before.before.before.before.before.before.before.before.args.h) _ _ _ c.before.before.before.before.before.before.restore.ensures
     (length-take-le (c.before.before.before.before.before.before.before.before.before.before.before.before.before.before.before.before.before.before.before.args.mtu + 2)
     c.before.before.before.before.before.before.before.before.before.before.blank.result la)).0
@@ -220,11 +220,11 @@ slice-aggregate-put-found c =
       c.before.before.before.before.before.before.before.before.before.before.before.blank.ensures,
       c.before.before.before.before.before.before.before.before.before.before.before.before.before.before.before.before.before.before.before.before.requires.1,
     ) in
-    (first-prefix c.before.before.before.before.before.before.before.before.before.before.before.before.before.before.before.before.before.before.before.before.args.k
+    (first_prefix c.before.before.before.before.before.before.before.before.before.before.before.before.before.before.before.before.before.before.before.before.args.k
     c.before.before.before.before.before.before.before.before.before.before.before.before.before.other-lost.result
     c.before.before.before.before.before.before.before.before.before.before.before.before.other-lost2.result _
     (c.before.before.before.before.before.before.before.before.before.before.before.before.before.before.before.before.before.before.before.before.args.mtu + 2)
-    (shardIn c.before.before.before.before.before.before.before.before.before.before.before.before.before.before.before.before.before.before.before.before.args.s.now
+    (shard_in c.before.before.before.before.before.before.before.before.before.before.before.before.before.before.before.before.before.before.before.before.args.s.now
     c.before.before.before.before.before.before.before.before.before.before.before.before.before.before.before.before.before.before.before.before.args.h) _ _ _ c.before.before.before.before.before.before.before.restore.ensures
     (length-take-le (c.before.before.before.before.before.before.before.before.before.before.before.before.before.before.before.before.before.before.before.before.args.mtu + 2)
     c.before.before.before.before.before.before.before.before.before.before.before.blank.result la)).1
@@ -238,11 +238,11 @@ array-share-prefix-b-2 c =
       c.before.before.before.before.before.before.before.before.before.before.before.blank.ensures,
       c.before.before.before.before.before.before.before.before.before.before.before.before.before.before.before.before.before.before.before.before.requires.1,
     ) in
-    (second-prefix c.before.before.before.before.before.before.before.before.before.before.before.before.before.before.before.before.before.before.before.before.args.k
+    (second_prefix c.before.before.before.before.before.before.before.before.before.before.before.before.before.before.before.before.before.before.before.before.args.k
     c.before.before.before.before.before.before.before.before.before.before.before.before.before.other-lost.result
     c.before.before.before.before.before.before.before.before.before.before.before.before.other-lost2.result _
     (c.before.before.before.before.before.before.before.before.before.before.before.before.before.before.before.before.before.before.before.before.args.mtu + 2)
-    (shardIn c.before.before.before.before.before.before.before.before.before.before.before.before.before.before.before.before.before.before.before.before.args.s.now
+    (shard_in c.before.before.before.before.before.before.before.before.before.before.before.before.before.before.before.before.before.before.before.before.args.s.now
     c.before.before.before.before.before.before.before.before.before.before.before.before.before.before.before.before.before.before.before.before.args.h) _ _ _ c.before.before.before.before.before.before.before.restore.ensures
     (length-take-le (c.before.before.before.before.before.before.before.before.before.before.before.before.before.before.before.before.before.before.before.before.args.mtu + 2)
     c.before.before.before.before.before.before.before.before.before.before.before.blank.result la)).0
@@ -256,9 +256,9 @@ slice-aggregate-put-found-2 c =
       c.before.before.before.before.before.before.before.before.before.before.before.before.blank.ensures,
       c.before.before.before.before.before.before.before.before.before.before.before.before.before.before.before.before.before.before.before.before.before.requires.1,
     ) in
-    (second-prefix c.before.before.before.before.before.before.before.before.before.before.before.before.before.before.before.before.before.before.before.before.before.args.k
+    (second_prefix c.before.before.before.before.before.before.before.before.before.before.before.before.before.before.before.before.before.before.before.before.before.args.k
     c.before.before.before.before.before.before.before.before.before.before.before.before.before.before.other-lost.result c.before.before.before.before.before.before.before.before.before.before.before.before.before.other-lost2.result _ (c.before.before.before.before.before.before.before.before.before.before.before.before.before.before.before.before.before.before.before.before.before.args.mtu + 2)
-    (shardIn c.before.before.before.before.before.before.before.before.before.before.before.before.before.before.before.before.before.before.before.before.before.args.s.now
+    (shard_in c.before.before.before.before.before.before.before.before.before.before.before.before.before.before.before.before.before.before.before.before.before.args.s.now
     c.before.before.before.before.before.before.before.before.before.before.before.before.before.before.before.before.before.before.before.before.before.args.h) _ _ _
     c.before.before.before.before.before.before.before.before.restore.ensures
     (length-take-le (c.before.before.before.before.before.before.before.before.before.before.before.before.before.before.before.before.before.before.before.before.before.args.mtu + 2)
@@ -292,15 +292,15 @@ put-found-requires c κs =
           (c.before.before.before.before.before.before.before.before.before.before.before.before.before.before.before.before.before.before.before.before.before.before.before.args.mtu + 2)
           c.before.before.before.before.before.before.before.before.before.before.before.before.before.before.blank.result
           la) c.before.before.before.before.before.before.before.before.before.before.restore.ensures,
-      and_left (lengthsOk c.before.before.before.before.before.before.before.before.before.before.before.before.before.before.before.before.before.before.before.before.before.before.before.args.mtu
-          (lengthsOf (found c.before.before.before.before.before.before.before.before.before.before.before.before.before.before.before.before.before.before.before.before.before.before.before.args.k
-          (shardIn c.before.before.before.before.before.before.before.before.before.before.before.before.before.before.before.before.before.before.before.before.before.before.before.args.s.now
+      and_left (lengths_ok c.before.before.before.before.before.before.before.before.before.before.before.before.before.before.before.before.before.before.before.before.before.before.before.args.mtu
+          (lengths_of (found c.before.before.before.before.before.before.before.before.before.before.before.before.before.before.before.before.before.before.before.before.before.before.before.args.k
+          (shard_in c.before.before.before.before.before.before.before.before.before.before.before.before.before.before.before.before.before.before.before.before.before.before.before.args.s.now
           c.before.before.before.before.before.before.before.before.before.before.before.before.before.before.before.before.before.before.before.before.before.before.before.args.h))))
           (every (holds c.before.before.before.before.before.before.before.before.before.before.before.before.before.before.before.before.before.before.before.before.before.before.before.args.k
           (c.before.before.before.before.before.before.before.before.before.before.before.before.before.before.before.before.before.before.before.before.before.before.before.args.group *
           (c.before.before.before.before.before.before.before.before.before.before.before.before.before.before.before.before.before.before.before.before.before.before.before.args.k + 2))
           (found c.before.before.before.before.before.before.before.before.before.before.before.before.before.before.before.before.before.before.before.before.before.before.before.args.k
-          (shardIn c.before.before.before.before.before.before.before.before.before.before.before.before.before.before.before.before.before.before.before.before.before.before.before.args.s.now
+          (shard_in c.before.before.before.before.before.before.before.before.before.before.before.before.before.before.before.before.before.before.before.before.before.before.before.args.s.now
           c.before.before.before.before.before.before.before.before.before.before.before.before.before.before.before.before.before.before.before.before.before.before.before.args.h)))
           (parts c.before.before.before.before.before.before.before.before.before.before.before.before.before.before.before.before.before.before.before.before.before.before.before.args.s.now
           c.before.before.before.before.before.before.before.before.before.before.before.before.before.before.before.before.before.before.before.before.before.before.before.args.lengths.now))
@@ -311,18 +311,18 @@ put-found-requires c κs =
 
 returns-2 : tie.Need-returns-2
 returns-2 c =
-    writing (readGroup c.before.before.before.before.before.before.before.before.before.before.before.before.before.before.before.before.before.before.before.before.before.before.before.before.before.before.before.before.args.k
+    writing (read_group c.before.before.before.before.before.before.before.before.before.before.before.before.before.before.before.before.before.before.before.before.before.before.before.before.before.before.before.before.args.k
     c.before.before.before.before.before.before.before.before.before.before.before.before.before.before.before.before.before.before.before.before.before.before.before.before.before.before.before.before.args.mtu
     c.before.before.before.before.before.before.before.before.before.before.before.before.before.before.before.before.before.before.before.before.before.before.before.before.before.before.before.before.args.group
     (parts c.before.before.before.before.before.before.before.before.before.before.before.before.before.before.before.before.before.before.before.before.before.before.before.before.before.before.before.before.args.s.now
     c.before.before.before.before.before.before.before.before.before.before.before.before.before.before.before.before.before.before.before.before.before.before.before.before.before.before.before.before.args.lengths.now))
     (found c.before.before.before.before.before.before.before.before.before.before.before.before.before.before.before.before.before.before.before.before.before.before.before.before.before.before.before.before.args.k
-    (shardIn c.before.before.before.before.before.before.before.before.before.before.before.before.before.before.before.before.before.before.before.before.before.before.before.before.before.before.before.before.args.s.now
+    (shard_in c.before.before.before.before.before.before.before.before.before.before.before.before.before.before.before.before.before.before.before.before.before.before.before.before.before.before.before.before.args.s.now
     c.before.before.before.before.before.before.before.before.before.before.before.before.before.before.before.before.before.before.before.before.before.before.before.before.before.before.before.before.args.h))
     c.before.before.before.before.before.before.before.before.before.before.before.before.before.before.before.before.before.before.before.before.before.before.before.before.before.before.before.before.args.k
     c.before.before.before.before.before.before.before.before.before.before.before.before.before.before.before.before.before.before.before.before.before.before.before.before.before.before.before.before.args.out.now
     c.before.before.before.before.before.before.before.before.before.before.before.before.before.before.before.before.before.before.before.before.before.before.before.before.before.before.before.before.args.out-lengths.now _ _
-    (after-all c.before.before.before.before.before.before.before.before.before.before.before.before.before.before.before.before.before.before.before.before.before.before.before.before.before.before.before.before.args.k
+    (after_all c.before.before.before.before.before.before.before.before.before.before.before.before.before.before.before.before.before.before.before.before.before.before.before.before.before.before.before.before.args.k
     c.before.before.before.before.before.before.before.before.before.before.before.before.before.before.before.before.before.before.before.before.before.before.before.before.before.before.before.before.args.mtu
     c.before.before.before.before.before.before.before.before.before.before.before.before.before.before.before.before.before.before.before.before.before.before.before.before.before.before.before.before.args.group
     c.before.before.before.before.before.before.before.before.before.before.before.before.before.before.before.before.before.before.before.before.before.before.before.before.before.before.before.before.args.s.now
@@ -335,25 +335,25 @@ returns-2 c =
     c.before.before.before.before.before.before.before.before.before.before.before.before.before.before.before.before.before.before.before.before.before.before.if1.false
     (sym c.before.before.before.before.before.before.before.before.before.before.verified.ensures ∙ c.before.before.before.before.before.before.before.before.before.if2.true))
     (sym (length_found c.before.before.before.before.before.before.before.before.before.before.before.before.before.before.before.before.before.before.before.before.before.before.before.before.before.before.before.before.args.k
-    (shardIn c.before.before.before.before.before.before.before.before.before.before.before.before.before.before.before.before.before.before.before.before.before.before.before.before.before.before.before.before.args.s.now
+    (shard_in c.before.before.before.before.before.before.before.before.before.before.before.before.before.before.before.before.before.before.before.before.before.before.before.before.before.before.before.before.args.s.now
     c.before.before.before.before.before.before.before.before.before.before.before.before.before.before.before.before.before.before.before.before.before.before.before.before.before.before.before.before.args.h)))
     c.before.before.before.before.put-found.ensures.0 c.before.before.before.before.put-found.ensures.1
 
 returns-3 : tie.Need-returns-3
 returns-3 c =
-    refusing (readGroup c.before.before.before.before.before.before.before.before.before.before.before.before.before.before.before.before.before.before.before.args.k
+    refusing (read_group c.before.before.before.before.before.before.before.before.before.before.before.before.before.before.before.before.before.before.before.args.k
     c.before.before.before.before.before.before.before.before.before.before.before.before.before.before.before.before.before.before.before.args.mtu c.before.before.before.before.before.before.before.before.before.before.before.before.before.before.before.before.before.before.before.args.group
     (parts c.before.before.before.before.before.before.before.before.before.before.before.before.before.before.before.before.before.before.before.args.s.now
     c.before.before.before.before.before.before.before.before.before.before.before.before.before.before.before.before.before.before.before.args.lengths.now)) NotAGroup
     c.before.before.before.before.before.before.before.before.before.before.before.before.before.before.before.before.before.before.before.args.out.now c.before.before.before.before.before.before.before.before.before.before.before.before.before.before.before.before.before.before.before.args.out-lengths.now
-    (after-21 c.before.before.before.before.before.before.before.before.before.before.before.before.before.before.before.before.before.before.before.args.k
+    (after_21 c.before.before.before.before.before.before.before.before.before.before.before.before.before.before.before.before.before.before.before.args.k
     c.before.before.before.before.before.before.before.before.before.before.before.before.before.before.before.before.before.before.before.args.mtu c.before.before.before.before.before.before.before.before.before.before.before.before.before.before.before.before.before.before.before.args.group
     c.before.before.before.before.before.before.before.before.before.before.before.before.before.before.before.before.before.before.before.args.s.now c.before.before.before.before.before.before.before.before.before.before.before.before.before.before.before.before.before.before.before.args.lengths.now
     c.before.before.before.before.before.before.before.before.before.before.before.before.before.before.before.before.before.before.before.args.h c.before.before.before.before.before.before.before.before.before.before.before.before.before.before.before.before.before.before.before.requires.3
     c.before.before.before.before.before.before.before.before.before.before.before.before.before.before.before.before.before.before.before.requires.4 c.before.before.before.before.before.before.before.before.before.before.before.before.before.before.count_held.result c.before.before.before.before.before.before.before.before.before.before.before.before.before.before.count_held.ensures c.before.before.before.before.before.before.before.before.before.before.before.before.before.if1.false (sym c.before.verified.ensures ∙ c.if2.false))
 
-pub read-held-spec : {M : Type 1} → statement M
-read-held-spec =
+pub read_held_spec : {M : Type 1} → statement M
+read_held_spec =
     tie.close
     (tie.spec
     (λ c. search rules)

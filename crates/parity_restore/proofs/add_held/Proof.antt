@@ -11,22 +11,22 @@ use Rattle.rows.specs.Rows.{Row}
 use Rattle.galois.specs.Field.{plus}
 use Rattle.frames.specs.Lists.{other}
 use Rattle.frames.specs.PartLaws.{length_part}
-use Rattle.frames.specs.WeightLaws.{tail, added-from-0}
-use Rattle.parity_scan.specs.Held.{shardIn, sized}
+use Rattle.frames.specs.WeightLaws.{tail, added_from_0}
+use Rattle.parity_scan.specs.Held.{shard_in, sized}
 use Rattle.parity_restore.specs.RestoreLaws.{
-  heldByte,
-  rest-none,
-  rest-next,
-  rest-done,
-  other-passed,
-  other-found,
-  solved-first,
-  solved-second,
+  held_byte,
+  rest_none,
+  rest_next,
+  rest_done,
+  other_passed,
+  other_found,
+  solved_first,
+  solved_second,
   both_first,
-  both-second,
-  rest-small,
-  other-lt,
-  other-apart,
+  both_second,
+  rest_small,
+  other_lt,
+  other_apart,
 }
 use Rattle.parity_restore.proofs.add_held.Statement.{statement}
 use Rattle.parity_restore.proofs.add_held.Tie as tie
@@ -69,15 +69,15 @@ add-requires c κs =
     0)) (omega (arith, l, w))
 
 returns : tie.Need-returns
-unfolding shardIn
-returns c = added-from-0 c.before.before.before.before.before.before.before.before.before.args.row.now _ _
+unfolding shard_in
+returns c = added_from_0 c.before.before.before.before.before.before.before.before.before.args.row.now _ _
     (rw (span (get_or c.before.before.before.before.before.before.before.before.before.args.t3.at
     c.before.before.before.before.before.before.before.before.before.args.p 0)
     (get_or c.before.before.before.before.before.before.before.before.before.args.t3.size
     c.before.before.before.before.before.before.before.before.before.args.p 0)) at c.before.before.add.ensures)
 
-pub add-held-spec : {M : Type 1} → statement M
-add-held-spec =
+pub add_held_spec : {M : Type 1} → statement M
+add_held_spec =
     tie.close
     (tie.spec
     (λ c. search rules)

@@ -11,22 +11,22 @@ use Rattle.rows.specs.Rows.{Row}
 use Rattle.galois.specs.Field.{plus}
 use Rattle.frames.specs.Lists.{other}
 use Rattle.frames.specs.PartLaws.{length_part}
-use Rattle.frames.specs.WeightLaws.{tail, added-from-0}
-use Rattle.parity_scan.specs.Held.{shardIn, sized}
+use Rattle.frames.specs.WeightLaws.{tail, added_from_0}
+use Rattle.parity_scan.specs.Held.{shard_in, sized}
 use Rattle.parity_restore.specs.RestoreLaws.{
-  heldByte,
-  rest-none,
-  rest-next,
-  rest-done,
-  other-passed,
-  other-found,
-  solved-first,
-  solved-second,
+  held_byte,
+  rest_none,
+  rest_next,
+  rest_done,
+  other_passed,
+  other_found,
+  solved_first,
+  solved_second,
   both_first,
-  both-second,
-  rest-small,
-  other-lt,
-  other-apart,
+  both_second,
+  rest_small,
+  other_lt,
+  other_apart,
 }
 use Rattle.parity_restore.proofs.other_lost.Statement.{statement}
 use Rattle.parity_restore.proofs.other_lost.Tie as tie
@@ -46,7 +46,7 @@ unfolding sized
 loop-again c = (
   omega arith,
   c.before.before.before.loop.invariant.1 ∙ sym
-      (other-passed (sized c.before.before.before.before.args.t1) c.before.before.before.before.args.i
+      (other_passed (sized c.before.before.before.before.args.t1) c.before.before.before.before.args.i
       c.before.before.before.loop.p c.if1.true),
 )
 
@@ -54,7 +54,7 @@ loop-again-2 : tie.Need-loop-preserved-2 invariant-loop decreases-loop
 unfolding sized
 loop-again-2 c = (
   omega arith,
-  sym (other-found (sized c.before.before.before.before.args.t1)
+  sym (other_found (sized c.before.before.before.before.args.t1)
       c.before.before.before.before.args.i c.before.before.before.loop.p c.if1.false),
 )
 
@@ -62,8 +62,8 @@ returns : tie.Need-returns invariant-loop decreases-loop
 returns c = let e : c.before.loop.p ≡ c.before.before.args.k = omega arith in
     c.before.loop.invariant.1 ∙ ap (other (sized c.before.before.args.t1) c.before.before.args.i) e
 
-pub other-lost-spec : {M : Type 1} → statement M
-other-lost-spec =
+pub other_lost_spec : {M : Type 1} → statement M
+other_lost_spec =
     tie.close
     (tie.spec
     invariant-loop

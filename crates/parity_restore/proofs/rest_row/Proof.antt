@@ -11,28 +11,28 @@ use Rattle.rows.specs.Rows.{Row}
 use Rattle.galois.specs.Field.{plus}
 use Rattle.frames.specs.Lists.{other}
 use Rattle.frames.specs.PartLaws.{length_part}
-use Rattle.frames.specs.WeightLaws.{tail, added-from-0}
-use Rattle.parity_scan.specs.Held.{shardIn, sized}
+use Rattle.frames.specs.WeightLaws.{tail, added_from_0}
+use Rattle.parity_scan.specs.Held.{shard_in, sized}
 use Rattle.parity_restore.specs.RestoreLaws.{
-  heldByte,
-  rest-none,
-  rest-next,
-  rest-done,
-  other-passed,
-  other-found,
-  solved-first,
-  solved-second,
+  held_byte,
+  rest_none,
+  rest_next,
+  rest_done,
+  other_passed,
+  other_found,
+  solved_first,
+  solved_second,
   both_first,
-  both-second,
-  rest-small,
-  other-lt,
-  other-apart,
+  both_second,
+  rest_small,
+  other_lt,
+  other_apart,
 }
 use Rattle.parity_restore.proofs.rest_row.Statement.{statement}
 use Rattle.parity_restore.proofs.rest_row.Tie as tie
 
 abbrev invariant-loop : tie.invariant-loop
-invariant-loop w k s h row₀ p₀ row p = (p ≤ k) × Row (λ x. tail w (heldByte s h x) p k) (length row₀) row
+invariant-loop w k s h row₀ p₀ row p = (p ≤ k) × Row (λ x. tail w (held_byte s h x) p k) (length row₀) row
 
 abbrev decreases-loop : tie.decreases-loop
 decreases-loop w k s h row₀ p₀ row p = p
@@ -40,7 +40,7 @@ decreases-loop w k s h row₀ p₀ row p = p
 loop-holds : tie.Need-loop-init invariant-loop decreases-loop
 loop-holds c = (
   omega arith,
-  rest-none c.before.before.before.before.before.before.args.w
+  rest_none c.before.before.before.before.before.before.args.w
       c.before.before.before.before.before.before.args.s.now c.before.before.before.before.before.before.args.h
       (λ i. omega (arith, c.before.before.before.before.before.shared-slice-known.given i))
       c.before.before.before.before.before.before.args.k
@@ -65,7 +65,7 @@ add-held-requires c κs = (
 loop-again : tie.Need-loop-preserved invariant-loop decreases-loop
 loop-again c = (
   omega arith,
-  rest-next c.before.before.before.before.before.before.before.before.before.before.before.before.before.before.before.before.args.w c.before.before.before.before.before.before.before.before.before.before.before.before.before.before.before.before.args.s.now c.before.before.before.before.before.before.before.before.before.before.before.before.before.before.before.before.args.h
+  rest_next c.before.before.before.before.before.before.before.before.before.before.before.before.before.before.before.before.args.w c.before.before.before.before.before.before.before.before.before.before.before.before.before.before.before.before.args.s.now c.before.before.before.before.before.before.before.before.before.before.before.before.before.before.before.before.args.h
       (λ i. omega (
         arith,
         c.before.before.before.before.before.before.before.before.before.before.before.before.before.before.before.shared-slice-known.given i,
@@ -95,7 +95,7 @@ same_length c = c.before.before.add-held2.ensures.size ∙ c.before.before.befor
 
 returns : tie.Need-returns invariant-loop decreases-loop
 returns c =
-    rest-done c.before.before.before.before.before.before.before.before.before.before.before.before.args.w
+    rest_done c.before.before.before.before.before.before.before.before.before.before.before.before.args.w
     c.before.before.before.before.before.before.before.before.before.before.before.before.args.s.now
     c.before.before.before.before.before.before.before.before.before.before.before.before.args.h
     (λ i. omega (
@@ -109,8 +109,8 @@ returns c =
     c.before.before.before.before.before.before.before.before.clear.ensures.size
     c.before.before.before.before.before.loop.invariant.1 c.before.before.add-held2.ensures
 
-pub rest-row-spec : {M : Type 1} → statement M
-rest-row-spec =
+pub rest_row_spec : {M : Type 1} → statement M
+rest_row_spec =
     tie.close
     (tie.spec
     invariant-loop

@@ -12,24 +12,24 @@ use Rattle.galois.specs.Field.{plus}
 use Rattle.frames.specs.Lists.{other}
 use Rattle.frames.specs.Reading.{rest, solved}
 use Rattle.frames.specs.PartLaws.{length_part}
-use Rattle.frames.specs.WeightLaws.{tail, added-from-0}
-use Rattle.parity_scan.specs.Held.{shardIn, sized}
+use Rattle.frames.specs.WeightLaws.{tail, added_from_0}
+use Rattle.parity_scan.specs.Held.{shard_in, sized}
 use Rattle.parity_restore.specs.RestoreLaws.{
   row_sized,
-  row-only,
-  heldByte,
-  rest-none,
-  rest-next,
-  rest-done,
-  other-passed,
-  other-found,
-  solved-first,
-  solved-second,
+  row_only,
+  held_byte,
+  rest_none,
+  rest_next,
+  rest_done,
+  other_passed,
+  other_found,
+  solved_first,
+  solved_second,
   both_first,
-  both-second,
-  rest-small,
-  other-lt,
-  other-apart,
+  both_second,
+  rest_small,
+  other_lt,
+  other_apart,
 }
 use Rattle.parity_restore.proofs.restore.Statement.{statement}
 use Rattle.parity_restore.proofs.restore.Tie as tie
@@ -40,12 +40,12 @@ solve-two-requires c κs =
     let e : c.before.before.before.before.before.before.before.args.j ≡ 12 → ⊥ = c.before.before.if2.false in
     let i : c.before.before.before.before.before.before.before.args.i < 10 =
     subst (λ (n : ℕ). n < 10) (sym c.before.before.before.before.before.before.before.requires.4)
-    (other-lt (sized c.before.before.before.before.before.before.before.args.h) 12
+    (other_lt (sized c.before.before.before.before.before.before.before.args.h) 12
     c.before.before.before.before.before.before.before.args.k (search rules)
     (λ q. d (c.before.before.before.before.before.before.before.requires.4 ∙ q))) in
     let j : c.before.before.before.before.before.before.before.args.j < 10 =
     subst (λ (n : ℕ). n < 10) (sym c.before.before.before.before.before.before.before.requires.5)
-    (other-lt (sized c.before.before.before.before.before.before.before.args.h)
+    (other_lt (sized c.before.before.before.before.before.before.before.args.h)
     c.before.before.before.before.before.before.before.args.i
     c.before.before.before.before.before.before.before.args.k (search rules)
     (λ q. e (c.before.before.before.before.before.before.before.requires.5 ∙ q))) in (
@@ -55,7 +55,7 @@ solve-two-requires c κs =
       c.before.before.before.before.before.before.before.requires.3,
       i,
       j,
-      λ q. other-apart (sized c.before.before.before.before.before.before.before.args.h)
+      λ q. other_apart (sized c.before.before.before.before.before.before.before.args.h)
           c.before.before.before.before.before.before.before.args.i
           c.before.before.before.before.before.before.before.args.k
           (λ r. e (c.before.before.before.before.before.before.before.requires.5 ∙ r))
@@ -64,22 +64,22 @@ solve-two-requires c κs =
 
 returns : tie.Need-returns
 returns c = record {
-  sizeA = refl;
-  sizeB = c.before.before.before.before.requires.3;
-  bytesA = λ x. omega (arith, c.before.before.slice-known.given x);
-  bytesB = λ x. omega (arith, c.before.slice-known2.given x);
+  size_a = refl;
+  size_b = c.before.before.before.before.requires.3;
+  bytes_a = λ x. omega (arith, c.before.before.slice-known.given x);
+  bytes_b = λ x. omega (arith, c.before.slice-known2.given x);
   first = λ d. absurd (d c.if1.true);
   second = λ d e. absurd (d c.if1.true);
 }
 
 returns-2 : tie.Need-returns-2
 returns-2 c = record {
-  sizeA = c.before.before.solve-one.ensures.size;
-  sizeB = c.before.before.before.before.before.before.before.before.before.requires.3;
-  bytesA = λ x. omega (arith, c.slice-known3.given x);
-  bytesB = λ x. omega (arith, c.before.before.before.before.before.before.slice-known2.given x);
-  first = λ d. row-only c.before.before.before.before.before.before.before.before.before.args.k
-      (shardIn c.before.before.before.before.before.before.before.before.before.args.s.now
+  size_a = c.before.before.solve-one.ensures.size;
+  size_b = c.before.before.before.before.before.before.before.before.before.requires.3;
+  bytes_a = λ x. omega (arith, c.slice-known3.given x);
+  bytes_b = λ x. omega (arith, c.before.before.before.before.before.before.slice-known2.given x);
+  first = λ d. row_only c.before.before.before.before.before.before.before.before.before.args.k
+      (shard_in c.before.before.before.before.before.before.before.before.before.args.s.now
       c.before.before.before.before.before.before.before.before.before.args.h)
       c.before.before.before.before.before.before.before.before.before.args.i
       c.before.before.before.before.before.before.before.before.before.args.j
@@ -90,16 +90,16 @@ returns-2 c = record {
 
 returns-3 : tie.Need-returns-3
 returns-3 c = record {
-  sizeA = c.before.before.before.before.solve-two.ensures.0.size;
-  sizeB = c.before.before.before.before.solve-two.ensures.1.size;
-  bytesA = λ x. omega (arith, c.before.before.slice-known4.given x);
-  bytesB = λ x. omega (arith, c.slice-known5.given x);
+  size_a = c.before.before.before.before.solve-two.ensures.0.size;
+  size_b = c.before.before.before.before.solve-two.ensures.1.size;
+  bytes_a = λ x. omega (arith, c.before.before.slice-known4.given x);
+  bytes_b = λ x. omega (arith, c.slice-known5.given x);
   first = λ d. c.before.before.before.before.solve-two.ensures.0;
   second = λ d e. c.before.before.before.before.solve-two.ensures.1;
 }
 
-pub restore-spec : {M : Type 1} → statement M
-restore-spec =
+pub restore_spec : {M : Type 1} → statement M
+restore_spec =
     tie.close
     (tie.spec
     returns

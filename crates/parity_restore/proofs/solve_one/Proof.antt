@@ -11,28 +11,28 @@ use Rattle.rows.specs.Rows.{Row}
 use Rattle.galois.specs.Field.{plus}
 use Rattle.frames.specs.Lists.{other}
 use Rattle.frames.specs.PartLaws.{length_part}
-use Rattle.frames.specs.WeightLaws.{tail, added-from-0}
-use Rattle.parity_scan.specs.Held.{shardIn, sized}
+use Rattle.frames.specs.WeightLaws.{tail, added_from_0}
+use Rattle.parity_scan.specs.Held.{shard_in, sized}
 use Rattle.parity_restore.specs.RestoreLaws.{
-  heldByte,
-  rest-none,
-  rest-next,
-  rest-done,
-  other-passed,
-  other-found,
-  solved-first,
-  solved-second,
+  held_byte,
+  rest_none,
+  rest_next,
+  rest_done,
+  other_passed,
+  other_found,
+  solved_first,
+  solved_second,
   both_first,
-  both-second,
-  rest-small,
-  other-lt,
-  other-apart,
+  both_second,
+  rest_small,
+  other_lt,
+  other_apart,
 }
 use Rattle.parity_restore.proofs.solve_one.Statement.{statement}
 use Rattle.parity_restore.proofs.solve_one.Tie as tie
 
 returns : tie.Need-returns
-returns c = solved-first c.before.before.before.before.before.before.before.before.args.s.now
+returns c = solved_first c.before.before.before.before.before.before.before.before.args.s.now
     c.before.before.before.before.before.before.before.before.args.t3
     c.before.before.before.before.before.before.before.before.requires.1
     c.before.before.before.before.before.before.before.before.args.k
@@ -42,7 +42,7 @@ returns c = solved-first c.before.before.before.before.before.before.before.befo
 
 returns-2 : tie.Need-returns-2
 returns-2 c =
-    solved-second c.before.before.before.before.before.before.before.before.before.before.before.before.before.before.args.s.now c.before.before.before.before.before.before.before.before.before.before.before.before.before.before.args.t3 c.before.before.before.before.before.before.before.before.before.before.before.before.before.before.requires.1
+    solved_second c.before.before.before.before.before.before.before.before.before.before.before.before.before.before.args.s.now c.before.before.before.before.before.before.before.before.before.before.before.before.before.before.args.t3 c.before.before.before.before.before.before.before.before.before.before.before.before.before.before.requires.1
     c.before.before.before.before.before.before.before.before.before.before.before.before.before.before.args.k
     c.before.before.before.before.before.before.before.before.before.before.before.before.before.before.args.i _
     (length c.before.before.before.before.before.before.before.before.before.before.before.before.before.before.args.row.now) c.before.before.before.before.power.result c.before.before.before.inverse.result _ _
@@ -50,8 +50,8 @@ returns-2 c =
     c.before.before.before.before.power.ensures c.before.before.before.inverse.ensures
     c.before.before.before.before.before.before.before.before.rest-row2.ensures c.before.before.multiply.ensures
 
-pub solve-one-spec : {M : Type 1} → statement M
-solve-one-spec =
+pub solve_one_spec : {M : Type 1} → statement M
+solve_one_spec =
     tie.close
     (tie.spec
     (λ c. search rules)

@@ -12,24 +12,24 @@ use Rattle.galois.specs.Field.{plus}
 use Rattle.frames.specs.Lists.{other}
 use Rattle.frames.specs.Reading.{rest, solved}
 use Rattle.frames.specs.PartLaws.{length_part}
-use Rattle.frames.specs.WeightLaws.{tail, added-from-0}
-use Rattle.parity_scan.specs.Held.{shardIn, sized}
+use Rattle.frames.specs.WeightLaws.{tail, added_from_0}
+use Rattle.parity_scan.specs.Held.{shard_in, sized}
 use Rattle.parity_restore.specs.RestoreLaws.{
   row_sized,
-  row-only,
-  heldByte,
-  rest-none,
-  rest-next,
-  rest-done,
-  other-passed,
-  other-found,
-  solved-first,
-  solved-second,
+  row_only,
+  held_byte,
+  rest_none,
+  rest_next,
+  rest_done,
+  other_passed,
+  other_found,
+  solved_first,
+  solved_second,
   both_first,
-  both-second,
-  rest-small,
-  other-lt,
-  other-apart,
+  both_second,
+  rest_small,
+  other_lt,
+  other_apart,
 }
 use Rattle.parity_restore.proofs.solve_two.Statement.{statement}
 use Rattle.parity_restore.proofs.solve_two.Tie as tie
@@ -50,14 +50,14 @@ rest-row-requires-2 c κs = (
 
 returns : tie.Need-returns
 returns c =
-    let b = row_sized (rest 0 c.before.before.before.before.before.before.before.before.before.before.before.before.before.before.before.before.before.before.before.before.before.before.before.before.before.before.before.before.before.args.k (shardIn c.before.before.before.before.before.before.before.before.before.before.before.before.before.before.before.before.before.before.before.before.before.before.before.before.before.before.before.before.before.args.s.now
+    let b = row_sized (rest 0 c.before.before.before.before.before.before.before.before.before.before.before.before.before.before.before.before.before.before.before.before.before.before.before.before.before.before.before.before.before.args.k (shard_in c.before.before.before.before.before.before.before.before.before.before.before.before.before.before.before.before.before.before.before.before.before.before.before.before.before.before.before.before.before.args.s.now
     c.before.before.before.before.before.before.before.before.before.before.before.before.before.before.before.before.before.before.before.before.before.before.before.before.before.before.before.before.before.args.h))
     (length c.before.before.before.before.before.before.before.before.before.before.before.before.before.before.before.before.before.before.before.before.before.before.before.before.before.before.before.before.before.args.b.now)
     (length c.before.before.before.before.before.before.before.before.before.before.before.before.before.before.before.before.before.before.before.before.before.before.before.before.before.before.before.before.before.args.a.now) _
     c.before.before.before.before.before.before.before.before.before.before.before.before.before.before.before.before.before.before.before.before.before.before.before.before.before.before.before.before.before.requires.3
     c.before.before.before.before.before.before.before.before.before.before.before.before.before.before.before.before.rest-row2.ensures in
     let f = both_first c.before.before.before.before.before.before.before.before.before.before.before.before.before.before.before.before.before.before.before.before.before.before.before.before.before.before.before.before.before.args.k
-    (shardIn c.before.before.before.before.before.before.before.before.before.before.before.before.before.before.before.before.before.before.before.before.before.before.before.before.before.before.before.before.before.args.s.now
+    (shard_in c.before.before.before.before.before.before.before.before.before.before.before.before.before.before.before.before.before.before.before.before.before.before.before.before.before.before.before.before.before.args.s.now
     c.before.before.before.before.before.before.before.before.before.before.before.before.before.before.before.before.before.before.before.before.before.before.before.before.before.before.before.before.before.args.h)
     c.before.before.before.before.before.before.before.before.before.before.before.before.before.before.before.before.before.before.before.before.before.before.before.before.before.before.before.before.before.args.i
     c.before.before.before.before.before.before.before.before.before.before.before.before.before.before.before.before.before.before.before.before.before.before.before.before.before.before.before.before.before.args.j
@@ -75,8 +75,8 @@ returns c =
     c.before.before.before.before.before.before.before.before.before.before.before.add-multiple.ensures
     c.before.before.before.before.before.before.before.multiply.ensures in (
       f,
-      both-second c.before.before.before.before.before.before.before.before.before.before.before.before.before.before.before.before.before.before.before.before.before.before.before.before.before.before.before.before.before.args.k
-          (shardIn c.before.before.before.before.before.before.before.before.before.before.before.before.before.before.before.before.before.before.before.before.before.before.before.before.before.before.before.before.before.args.s.now c.before.before.before.before.before.before.before.before.before.before.before.before.before.before.before.before.before.before.before.before.before.before.before.before.before.before.before.before.before.args.h)
+      both_second c.before.before.before.before.before.before.before.before.before.before.before.before.before.before.before.before.before.before.before.before.before.before.before.before.before.before.before.before.before.args.k
+          (shard_in c.before.before.before.before.before.before.before.before.before.before.before.before.before.before.before.before.before.before.before.before.before.before.before.before.before.before.before.before.before.args.s.now c.before.before.before.before.before.before.before.before.before.before.before.before.before.before.before.before.before.before.before.before.before.before.before.before.before.before.before.before.before.args.h)
           c.before.before.before.before.before.before.before.before.before.before.before.before.before.before.before.before.before.before.before.before.before.before.before.before.before.before.before.before.before.args.i
           c.before.before.before.before.before.before.before.before.before.before.before.before.before.before.before.before.before.before.before.before.before.before.before.before.before.before.before.before.before.args.j
           (length c.before.before.before.before.before.before.before.before.before.before.before.before.before.before.before.before.before.before.before.before.before.before.before.before.before.before.before.before.before.args.a.now)
@@ -89,7 +89,7 @@ returns c =
           c.before.before.before.before.before.before.before.before.before.before.before.before.before.before.before.before.before.before.before.before.before.before.before.before.before.power.ensures
           c.before.before.before.before.before.before.before.before.before.before.before.before.before.before.before.before.before.before.before.before.before.before.before.add.ensures
           c.before.before.before.before.before.before.before.before.before.before.before.before.before.before.before.before.before.before.before.before.before.before.inverse.ensures _ _ _
-          (rest-small c.before.before.before.before.before.before.before.before.before.before.before.before.before.before.before.before.before.before.before.before.before.before.before.before.before.before.before.before.before.args.k
+          (rest_small c.before.before.before.before.before.before.before.before.before.before.before.before.before.before.before.before.before.before.before.before.before.before.before.before.before.before.before.before.before.args.k
           c.before.before.before.before.before.before.before.before.before.before.before.before.before.before.before.before.before.before.before.before.before.before.before.before.before.before.before.before.before.args.s.now
           c.before.before.before.before.before.before.before.before.before.before.before.before.before.before.before.before.before.before.before.before.before.before.before.before.before.before.before.before.before.args.h
           (λ i. omega (
@@ -98,8 +98,8 @@ returns c =
           ))) b f c.before.before.add2.ensures,
     )
 
-pub solve-two-spec : {M : Type 1} → statement M
-solve-two-spec =
+pub solve_two_spec : {M : Type 1} → statement M
+solve_two_spec =
     tie.close
     (tie.spec
     (λ c κs. search rules)

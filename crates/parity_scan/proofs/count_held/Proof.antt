@@ -8,30 +8,30 @@ use native.Mathlib.Omega.{arith}
 use borrow.Author.Rules.{rules}
 use borrow.Author.Tests.{lt-ltb, le-ltb}
 use lib.ListN.{length, take, drop, get_or, length-replicate}
-use Rattle.frames.specs.Lists.{addUp, count}
+use Rattle.frames.specs.Lists.{add_up, count}
 use Rattle.frames.specs.Reading.{group_of, place_of}
-use Rattle.frames.specs.PartLaws.{add-up-next, add-up-le, length_part}
+use Rattle.frames.specs.PartLaws.{add_up_next, add_up_le, length_part}
 use Rattle.parity_scan.specs.Held.{noted, sized}
-use Rattle.parity_scan.specs.HeldLaws.{count-more, count_same}
+use Rattle.parity_scan.specs.HeldLaws.{count_more, count_same}
 use Rattle.parity_scan.specs.ScanLaws.{
-  numberAt-part,
-  type-data,
-  type-parity,
+  number_at_part,
+  type_data,
+  type_parity,
   frame_right,
-  frame-short,
+  frame_short,
   Seen,
   seen_none,
-  seen-room,
-  seen-stop,
-  frame-long,
+  seen_room,
+  seen_stop,
+  frame_long,
   seen_next,
   seen_all,
-  scan-wrong,
-  scan-right,
-  scan-none,
-  scan-first,
+  scan_wrong,
+  scan_right,
+  scan_none,
+  scan_first,
   first_short,
-  empty-held,
+  empty_held,
 }
 use Rattle.parity_scan.proofs.count_held.Statement.{statement}
 use Rattle.parity_scan.proofs.count_held.Tie as tie
@@ -54,7 +54,7 @@ loop-again c =
       omega arith,
       omega (
         arith,
-        count-more (sized c.before.before.before.before.args.t1) c.before.before.before.loop.p
+        count_more (sized c.before.before.before.before.args.t1) c.before.before.before.loop.p
             (lt-ltb 0 (get_or c.before.before.before.before.args.t1.size c.before.before.before.loop.p 0) w.0.taken),
       ),
       omega arith,
@@ -73,8 +73,8 @@ returns : tie.Need-returns invariant-loop decreases-loop
 returns c = let e : c.before.loop.p ≡ c.before.before.args.n = omega arith in
     c.before.loop.invariant.1 ∙ ap (count (sized c.before.before.args.t1)) e
 
-pub count-held-spec : {M : Type 1} → statement M
-count-held-spec =
+pub count_held_spec : {M : Type 1} → statement M
+count_held_spec =
     tie.close
     (tie.spec
     invariant-loop

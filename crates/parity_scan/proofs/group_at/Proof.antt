@@ -8,30 +8,30 @@ use native.Mathlib.Omega.{arith}
 use borrow.Author.Rules.{rules}
 use borrow.Author.Tests.{lt-ltb, le-ltb}
 use lib.ListN.{length, take, drop, get_or, length-replicate}
-use Rattle.frames.specs.Lists.{addUp, count}
+use Rattle.frames.specs.Lists.{add_up, count}
 use Rattle.frames.specs.Reading.{group_of, place_of}
-use Rattle.frames.specs.PartLaws.{add-up-next, add-up-le, length_part}
+use Rattle.frames.specs.PartLaws.{add_up_next, add_up_le, length_part}
 use Rattle.parity_scan.specs.Held.{noted, sized}
-use Rattle.parity_scan.specs.HeldLaws.{count-more, count_same}
+use Rattle.parity_scan.specs.HeldLaws.{count_more, count_same}
 use Rattle.parity_scan.specs.ScanLaws.{
-  numberAt-part,
-  type-data,
-  type-parity,
+  number_at_part,
+  type_data,
+  type_parity,
   frame_right,
-  frame-short,
+  frame_short,
   Seen,
   seen_none,
-  seen-room,
-  seen-stop,
-  frame-long,
+  seen_room,
+  seen_stop,
+  frame_long,
   seen_next,
   seen_all,
-  scan-wrong,
-  scan-right,
-  scan-none,
-  scan-first,
+  scan_wrong,
+  scan_right,
+  scan_none,
+  scan_first,
   first_short,
-  empty-held,
+  empty_held,
 }
 use Rattle.parity_scan.proofs.group_at.Statement.{statement}
 use Rattle.parity_scan.proofs.group_at.Tie as tie
@@ -40,8 +40,8 @@ returns : tie.Need-returns
 unfolding group_of
 returns c = ap (λ (q : ℕ). q / (c.before.before.args.k + 2)) c.sequence-at.ensures
 
-pub group-at-spec : {M : Type 1} → statement M
-group-at-spec =
+pub group_at_spec : {M : Type 1} → statement M
+group_at_spec =
     tie.close
     (tie.spec
     (λ c κs. search rules)

@@ -8,30 +8,30 @@ use native.Mathlib.Omega.{arith}
 use borrow.Author.Rules.{rules}
 use borrow.Author.Tests.{lt-ltb, le-ltb}
 use lib.ListN.{length, take, drop, get_or, length-replicate}
-use Rattle.frames.specs.Lists.{addUp, count}
+use Rattle.frames.specs.Lists.{add_up, count}
 use Rattle.frames.specs.Reading.{group_of, place_of}
-use Rattle.frames.specs.PartLaws.{add-up-next, add-up-le, length_part}
+use Rattle.frames.specs.PartLaws.{add_up_next, add_up_le, length_part}
 use Rattle.parity_scan.specs.Held.{noted, sized}
-use Rattle.parity_scan.specs.HeldLaws.{count-more, count_same}
+use Rattle.parity_scan.specs.HeldLaws.{count_more, count_same}
 use Rattle.parity_scan.specs.ScanLaws.{
-  numberAt-part,
-  type-data,
-  type-parity,
+  number_at_part,
+  type_data,
+  type_parity,
   frame_right,
-  frame-short,
+  frame_short,
   Seen,
   seen_none,
-  seen-room,
-  seen-stop,
-  frame-long,
+  seen_room,
+  seen_stop,
+  frame_long,
   seen_next,
   seen_all,
-  scan-wrong,
-  scan-right,
-  scan-none,
-  scan-first,
+  scan_wrong,
+  scan_right,
+  scan_none,
+  scan_first,
   first_short,
-  empty-held,
+  empty_held,
 }
 use Rattle.parity_scan.proofs.note.Statement.{statement}
 use Rattle.parity_scan.proofs.note.Tie as tie
@@ -44,8 +44,8 @@ returns-2 : tie.Need-returns-2
 unfolding noted sized
 returns-2 c = rw c.if1.false
 
-pub note-spec : {M : Type 1} → statement M
-note-spec =
+pub note_spec : {M : Type 1} → statement M
+note_spec =
     tie.close
     (tie.spec
     (λ c. search rules)

@@ -8,30 +8,30 @@ use native.Mathlib.Omega.{arith}
 use borrow.Author.Rules.{rules}
 use borrow.Author.Tests.{lt-ltb, le-ltb}
 use lib.ListN.{length, take, drop, get_or, length-replicate}
-use Rattle.frames.specs.Lists.{addUp, count}
+use Rattle.frames.specs.Lists.{add_up, count}
 use Rattle.frames.specs.Reading.{group_of, place_of}
-use Rattle.frames.specs.PartLaws.{add-up-next, add-up-le, length_part}
+use Rattle.frames.specs.PartLaws.{add_up_next, add_up_le, length_part}
 use Rattle.parity_scan.specs.Held.{noted, sized}
-use Rattle.parity_scan.specs.HeldLaws.{count-more, count_same}
+use Rattle.parity_scan.specs.HeldLaws.{count_more, count_same}
 use Rattle.parity_scan.specs.ScanLaws.{
-  numberAt-part,
-  type-data,
-  type-parity,
+  number_at_part,
+  type_data,
+  type_parity,
   frame_right,
-  frame-short,
+  frame_short,
   Seen,
   seen_none,
-  seen-room,
-  seen-stop,
-  frame-long,
+  seen_room,
+  seen_stop,
+  frame_long,
   seen_next,
   seen_all,
-  scan-wrong,
-  scan-right,
-  scan-none,
-  scan-first,
+  scan_wrong,
+  scan_right,
+  scan_none,
+  scan_first,
   first_short,
-  empty-held,
+  empty_held,
 }
 use Rattle.parity_scan.proofs.scan_from.Statement.{statement}
 use Rattle.parity_scan.proofs.scan_from.Tie as tie
@@ -48,7 +48,7 @@ loop-holds c = seen_none c.before.before.args.s.now c.before.before.args.lengths
 
 frame-ok-requires : tie.Need-frame-ok-requires invariant-loop decreases-loop
 frame-ok-requires c κs =
-    let r = seen-room c.before.before.before.before.before.before.args.s.now
+    let r = seen_room c.before.before.before.before.before.before.args.s.now
     c.before.before.before.before.before.before.args.lengths.now c.before.before.before.before.before.before.args.k
     c.before.before.before.before.before.before.args.mtu c.before.before.before.before.before.before.args.group
     c.before.before.before.loop.held c.before.before.before.loop.at c.before.before.before.loop.i c.wide.result
@@ -57,7 +57,7 @@ frame-ok-requires c κs =
 
 place-at-requires : tie.Need-place-at-requires invariant-loop decreases-loop
 place-at-requires c κs =
-    let r = seen-room c.before.before.before.before.before.before.before.before.args.s.now
+    let r = seen_room c.before.before.before.before.before.before.before.before.args.s.now
     c.before.before.before.before.before.before.before.before.args.lengths.now
     c.before.before.before.before.before.before.before.before.args.k
     c.before.before.before.before.before.before.before.before.args.mtu
@@ -65,7 +65,7 @@ place-at-requires c κs =
     c.before.before.before.before.before.loop.at c.before.before.before.before.before.loop.i
     c.before.before.wide.result c.before.before.before.before.before.loop.invariant (search rules) (search rules)
     c.before.before.wide.ensures in
-    let l = frame-long c.before.before.before.before.before.before.before.before.args.s.now
+    let l = frame_long c.before.before.before.before.before.before.before.before.args.s.now
     c.before.before.before.before.before.before.before.before.args.lengths.now
     c.before.before.before.before.before.before.before.before.args.k
     c.before.before.before.before.before.before.before.before.args.mtu
@@ -77,7 +77,7 @@ place-at-requires c κs =
 
 add-note : tie.Need-overflow-add-note invariant-loop decreases-loop
 add-note c =
-    let r = seen-room c.before.before.before.before.before.before.before.before.before.args.s.now
+    let r = seen_room c.before.before.before.before.before.before.before.before.before.args.s.now
     c.before.before.before.before.before.before.before.before.before.args.lengths.now
     c.before.before.before.before.before.before.before.before.before.args.k
     c.before.before.before.before.before.before.before.before.before.args.mtu
@@ -86,7 +86,7 @@ add-note c =
     c.before.before.before.before.before.before.loop.i c.before.before.before.wide.result
     c.before.before.before.before.before.before.loop.invariant (search rules) (search rules)
     c.before.before.before.wide.ensures in
-    let l = frame-long c.before.before.before.before.before.before.before.before.before.args.s.now
+    let l = frame_long c.before.before.before.before.before.before.before.before.before.args.s.now
     c.before.before.before.before.before.before.before.before.before.args.lengths.now
     c.before.before.before.before.before.before.before.before.before.args.k
     c.before.before.before.before.before.before.before.before.before.args.mtu
@@ -99,7 +99,7 @@ add-note c =
 
 sub-note : tie.Need-overflow-sub-note invariant-loop decreases-loop
 sub-note c =
-    let l = frame-long c.before.before.before.before.before.before.before.before.before.args.s.now
+    let l = frame_long c.before.before.before.before.before.before.before.before.before.args.s.now
     c.before.before.before.before.before.before.before.before.before.args.lengths.now
     c.before.before.before.before.before.before.before.before.before.args.k
     c.before.before.before.before.before.before.before.before.before.args.mtu
@@ -115,7 +115,7 @@ note-requires c κs = omega (arith, c.place_at.ensures.1)
 
 add_at : tie.Need-overflow-add-at invariant-loop decreases-loop
 add_at c =
-    let r = seen-room c.before.before.before.before.before.before.before.before.before.before.args.s.now
+    let r = seen_room c.before.before.before.before.before.before.before.before.before.before.args.s.now
     c.before.before.before.before.before.before.before.before.before.before.args.lengths.now
     c.before.before.before.before.before.before.before.before.before.before.args.k
     c.before.before.before.before.before.before.before.before.before.before.args.mtu
@@ -145,13 +145,13 @@ loop-again c =
 
 returns : tie.Need-returns invariant-loop decreases-loop
 returns c =
-    scan-wrong c.before.before.before.before.before.before.before.before.args.s.now
+    scan_wrong c.before.before.before.before.before.before.before.before.args.s.now
     c.before.before.before.before.before.before.before.before.args.lengths.now
     c.before.before.before.before.before.before.before.before.args.k
     c.before.before.before.before.before.before.before.before.args.mtu
     c.before.before.before.before.before.before.before.before.args.group _
     c.before.before.before.before.before.loop.held
-    (seen-stop c.before.before.before.before.before.before.before.before.args.s.now
+    (seen_stop c.before.before.before.before.before.before.before.before.args.s.now
     c.before.before.before.before.before.before.before.before.args.lengths.now
     c.before.before.before.before.before.before.before.before.args.k
     c.before.before.before.before.before.before.before.before.args.mtu
@@ -162,7 +162,7 @@ returns c =
 
 returns-2 : tie.Need-returns-2 invariant-loop decreases-loop
 returns-2 c =
-    scan-right c.before.before.before.before.args.s.now c.before.before.before.before.args.lengths.now
+    scan_right c.before.before.before.before.args.s.now c.before.before.before.before.args.lengths.now
     c.before.before.before.before.args.k c.before.before.before.before.args.mtu
     c.before.before.before.before.args.group _ c.before.loop.held refl
     (seen_all c.before.before.before.before.args.s.now c.before.before.before.before.args.lengths.now
@@ -170,8 +170,8 @@ returns-2 c =
     c.before.before.before.before.args.group c.before.loop.held c.before.loop.at c.before.loop.i
     c.before.loop.invariant c.loop-test.false)
 
-pub scan-from-spec : {M : Type 1} → statement M
-scan-from-spec =
+pub scan_from_spec : {M : Type 1} → statement M
+scan_from_spec =
     tie.close
     (tie.spec
     invariant-loop

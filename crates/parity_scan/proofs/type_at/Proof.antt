@@ -8,42 +8,42 @@ use native.Mathlib.Omega.{arith}
 use borrow.Author.Rules.{rules}
 use borrow.Author.Tests.{lt-ltb, le-ltb}
 use lib.ListN.{length, take, drop, get_or, length-replicate}
-use Rattle.frames.specs.Lists.{addUp, count}
+use Rattle.frames.specs.Lists.{add_up, count}
 use Rattle.frames.specs.Reading.{group_of, place_of}
-use Rattle.frames.specs.PartLaws.{add-up-next, add-up-le, length_part}
+use Rattle.frames.specs.PartLaws.{add_up_next, add_up_le, length_part}
 use Rattle.parity_scan.specs.Held.{noted, sized}
-use Rattle.parity_scan.specs.HeldLaws.{count-more, count_same}
+use Rattle.parity_scan.specs.HeldLaws.{count_more, count_same}
 use Rattle.parity_scan.specs.ScanLaws.{
-  numberAt-part,
-  type-data,
-  type-parity,
+  number_at_part,
+  type_data,
+  type_parity,
   frame_right,
-  frame-short,
+  frame_short,
   Seen,
   seen_none,
-  seen-room,
-  seen-stop,
-  frame-long,
+  seen_room,
+  seen_stop,
+  frame_long,
   seen_next,
   seen_all,
-  scan-wrong,
-  scan-right,
-  scan-none,
-  scan-first,
+  scan_wrong,
+  scan_right,
+  scan_none,
+  scan_first,
   first_short,
-  empty-held,
+  empty_held,
 }
 use Rattle.parity_scan.proofs.type_at.Statement.{statement}
 use Rattle.parity_scan.proofs.type_at.Tie as tie
 
 returns : tie.Need-returns
-returns c = sym (type-data c.before.args.k c.before.args.p c.if1.true)
+returns c = sym (type_data c.before.args.k c.before.args.p c.if1.true)
 
 returns-2 : tie.Need-returns-2
-returns-2 c = sym (type-parity c.before.args.k c.before.args.p c.if1.false)
+returns-2 c = sym (type_parity c.before.args.k c.before.args.p c.if1.false)
 
-pub type-at-spec : {M : Type 1} → statement M
-type-at-spec =
+pub type_at_spec : {M : Type 1} → statement M
+type_at_spec =
     tie.close
     (tie.spec
     returns

@@ -13,8 +13,8 @@ returns c =
       says = rw c.unchanged.ensures (record { bench = refl; answer = c.before.before.before.time.ensures });
     }
 
-pub check-spec : {M : Type 1} → statement M
-check-spec =
+pub check_spec : {M : Type 1} → statement M
+check_spec =
     tie.close
     (tie.spec
     (λ c κs. tt)

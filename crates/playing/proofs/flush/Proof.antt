@@ -26,8 +26,8 @@ returns-2 c =
       says = rw c.before.before.before.before.before.answer2.given.1 c.before.before.refused.ensures;
     }
 
-pub flush-spec : {M : Type 1} → statement M
-flush-spec =
+pub flush_spec : {M : Type 1} → statement M
+flush_spec =
     tie.close
     (tie.spec
     (search rules)

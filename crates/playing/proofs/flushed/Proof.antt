@@ -13,5 +13,5 @@ returns c = record {
       c.before.before.count.ensures;
 }
 
-pub flushed-spec : {M : Type 1} → statement M
-flushed-spec = tie.close (tie.spec (search rules) (search rules) (search rules) returns)
+pub flushed_spec : {M : Type 1} → statement M
+flushed_spec = tie.close (tie.spec (search rules) (search rules) (search rules) returns)

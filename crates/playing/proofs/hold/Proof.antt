@@ -34,6 +34,6 @@ returns-2 c =
     (sym (c.before.before.before.before.before.is-held.ensures h) ∙ c.before.before.before.before.if1.false) in
     record { held = λ h g. absurd (omega (arith, counted h)); none = λ h g. c.before.before.malformed.ensures }
 
-pub hold-spec : {M : Type 1} → statement M
-hold-spec = tie.close (tie.spec (search rules) (search rules) (search rules) (search rules) (search rules) (search rules) returns
+pub hold_spec : {M : Type 1} → statement M
+hold_spec = tie.close (tie.spec (search rules) (search rules) (search rules) (search rules) (search rules) (search rules) returns
     (search rules) returns-2)

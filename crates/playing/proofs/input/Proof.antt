@@ -1,18 +1,18 @@
 -- `playing::input` meets its contract: the datagram is within its bytes.
 -- Assumes nothing.
-use Rattle.bench_calls.specs.Fronts.{front-take}
+use Rattle.bench_calls.specs.Fronts.{front_take}
 use Rattle.playing.proofs.input.Statement.{statement}
 use Rattle.playing.proofs.input.Tie as tie
 
 returns : tie.Need-returns
 returns c = record {
   done = c.before.before.before.before.before.before.before.before.input.result;
-  promise = rw (front-take _ _ _ c.before.before.before.before.before.before.before.before.before.before.before.before.front.ensures) at c.before.before.before.before.before.before.before.before.input.ensures;
+  promise = rw (front_take _ _ _ c.before.before.before.before.before.before.before.before.before.before.before.before.front.ensures) at c.before.before.before.before.before.before.before.before.input.ensures;
   says = c.before.before.answered.ensures;
 }
 
-pub input-spec : {M : Type 1} → statement M
-input-spec =
+pub input_spec : {M : Type 1} → statement M
+input_spec =
     tie.close
     (tie.spec
     (λ c κs. tt)

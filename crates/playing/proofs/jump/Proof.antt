@@ -29,5 +29,5 @@ returns-2 c = record {
       λ h. c.before.before.malformed.ensures;
 }
 
-pub jump-spec : {M : Type 1} → statement M
-jump-spec = tie.close (tie.spec (search rules) (search rules) (search rules) (search rules) (search rules) returns (search rules) returns-2)
+pub jump_spec : {M : Type 1} → statement M
+jump_spec = tie.close (tie.spec (search rules) (search rules) (search rules) (search rules) (search rules) returns (search rules) returns-2)

@@ -6,8 +6,8 @@ use borrow.Author.Rules.{rules}
 use Rattle.playing.proofs.line_of.Statement.{statement}
 use Rattle.playing.proofs.line_of.Tie as tie
 
-pub line-of-spec : {M : Type 1} → statement M
-line-of-spec =
+pub line_of_spec : {M : Type 1} → statement M
+line_of_spec =
     tie.close
     (tie.spec
     (search rules)

@@ -10,5 +10,5 @@ returns : tie.Need-returns
 unfolding ascii
 returns c = record { bench = refl; answer = c.before.before.bytes.ensures }
 
-pub malformed-spec : {M : Type 1} → statement M
-malformed-spec = tie.close (tie.spec (search rules) (search rules) (search rules) returns)
+pub malformed_spec : {M : Type 1} → statement M
+malformed_spec = tie.close (tie.spec (search rules) (search rules) (search rules) returns)

@@ -8,15 +8,15 @@ use Rattle.playing.proofs.on_link.Tie as tie
 
 returns : tie.Need-returns
 returns c = rw c.before.before.before.before.before.before.before.before.before.before.command.given.1
-    (record { sendPool = refl; receivePool = refl; acks = refl }, c.before.before.before.before.send.ensures)
+    (record { send_pool = refl; receive_pool = refl; acks = refl }, c.before.before.before.before.send.ensures)
 
 returns-2 : tie.Need-returns-2
 returns-2 c = rw c.before.before.before.before.before.before.before.before.before.before.before.before.command2.given.1
-    (record { sendPool = refl; receivePool = refl; acks = refl }, c.before.before.before.before.before.before.input.ensures)
+    (record { send_pool = refl; receive_pool = refl; acks = refl }, c.before.before.before.before.before.before.input.ensures)
 
 returns-3 : tie.Need-returns-3
 returns-3 c = rw c.before.before.before.before.before.before.before.before.command3.given.1
-    (record { sendPool = refl; receivePool = refl; acks = refl }, c.before.before.flush.ensures)
+    (record { send_pool = refl; receive_pool = refl; acks = refl }, c.before.before.flush.ensures)
 
 returns-4 : tie.Need-returns-4
 returns-4 c = rw c.before.before.before.before.before.before.before.before.command4.given.1
@@ -44,10 +44,10 @@ returns-9 c =
     let played = c.before.before.tool in
     no_call a.command a.bench a.send-pool.now a.receive-pool.now a.acks.now a.bytes.now a.text.now
     played.result _ _ _ played.new.1.1.0 c.before.before.before.before.match.keys9
-    (record { sendPool = refl; receivePool = refl; acks = refl }) c.before.before.tool.ensures
+    (record { send_pool = refl; receive_pool = refl; acks = refl }) c.before.before.tool.ensures
 
-pub on-link-spec : {M : Type 1} → statement M
-on-link-spec =
+pub on_link_spec : {M : Type 1} → statement M
+on_link_spec =
     tie.close
     (tie.spec
     (search rules)

@@ -8,5 +8,5 @@ returns : tie.Need-returns
 returns c = rw (c.before.before.before.before.with-table.ensures, c.before.before.before.before.before.replace.ensures) at
     c.before.before.ok.ensures
 
-pub rec-spec : {M : Type 1} → statement M
-rec-spec = tie.close (tie.spec (search rules) (search rules) (search rules) (search rules) returns)
+pub rec_spec : {M : Type 1} → statement M
+rec_spec = tie.close (tie.spec (search rules) (search rules) (search rules) (search rules) returns)

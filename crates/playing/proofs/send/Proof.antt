@@ -1,19 +1,19 @@
 -- `playing::send` meets its contract: the message is within its bytes.
 -- Assumes nothing.
-use Rattle.bench_calls.specs.Fronts.{front-take}
+use Rattle.bench_calls.specs.Fronts.{front_take}
 use Rattle.playing.proofs.send.Statement.{statement}
 use Rattle.playing.proofs.send.Tie as tie
 
 returns : tie.Need-returns
 returns c = record {
   done = c.before.before.before.before.before.before.send.result;
-  promise = rw (front-take _ _ _ c.before.before.before.before.before.before.before.before.before.front.ensures) at
+  promise = rw (front_take _ _ _ c.before.before.before.before.before.before.before.before.before.front.ensures) at
       c.before.before.before.before.before.before.send.ensures;
   says = c.before.before.answered.ensures;
 }
 
-pub send-spec : {M : Type 1} → statement M
-send-spec =
+pub send_spec : {M : Type 1} → statement M
+send_spec =
     tie.close
     (tie.spec
     (λ c κs. tt)

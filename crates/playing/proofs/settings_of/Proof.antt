@@ -4,8 +4,8 @@ use borrow.Author.Rules.{rules}
 use Rattle.playing.proofs.settings_of.Statement.{statement}
 use Rattle.playing.proofs.settings_of.Tie as tie
 
-pub settings-of-spec : {M : Type 1} → statement M
-settings-of-spec =
+pub settings_of_spec : {M : Type 1} → statement M
+settings_of_spec =
     tie.close
     (tie.spec
     (search rules)

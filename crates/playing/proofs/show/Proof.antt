@@ -15,8 +15,8 @@ returns c = record {
       rw c.unchanged.ensures (record { bench = refl; answer = c.before.before.before.bytes-line.ensures });
 }
 
-pub show-spec : {M : Type 1} → statement M
-show-spec =
+pub show_spec : {M : Type 1} → statement M
+show_spec =
     tie.close
     (tie.spec
     (λ c κs. tt)

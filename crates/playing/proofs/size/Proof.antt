@@ -12,8 +12,8 @@ returns c = record {
       rw c.unchanged.ensures (record { bench = refl; answer = c.before.before.before.count.ensures });
 }
 
-pub size-spec : {M : Type 1} → statement M
-size-spec =
+pub size_spec : {M : Type 1} → statement M
+size_spec =
     tie.close
     (tie.spec
     (λ c κs. tt)

@@ -8,5 +8,5 @@ use Rattle.playing.proofs.state.Tie as tie
 returns : tie.Need-returns
 returns c = rw c.unchanged.ensures (record { bench = refl; answer = c.before.before.before.state.ensures })
 
-pub state-spec : {M : Type 1} → statement M
-state-spec = tie.close (tie.spec (search rules) (search rules) (search rules) returns)
+pub state_spec : {M : Type 1} → statement M
+state_spec = tie.close (tie.spec (search rules) (search rules) (search rules) returns)

@@ -1,7 +1,7 @@
 -- `playing::tool` meets its contract, command by command.
 -- Assumes nothing.
 use borrow.Author.Rules.{rules}
-use Rattle.playing.proofs.Arms.{no-tool}
+use Rattle.playing.proofs.Arms.{no_tool}
 use Rattle.playing.proofs.tool.Statement.{statement}
 use Rattle.playing.proofs.tool.Tie as tie
 
@@ -27,11 +27,11 @@ returns-7 : tie.Need-returns-7
 returns-7 c = rw c.before.before.before.before.before.command5.given.1 c.before.before.rec.ensures
 
 returns-8 : tie.Need-returns-8
-returns-8 c = no-tool c.before.before.before.before.before.before.args.command _ _ _ _
+returns-8 c = no_tool c.before.before.before.before.before.before.args.command _ _ _ _
     c.before.before.before.before.match.keys8 c.before.before.malformed.ensures
 
-pub tool-spec : {M : Type 1} → statement M
-tool-spec =
+pub tool_spec : {M : Type 1} → statement M
+tool_spec =
     tie.close
     (tie.spec
     (search rules)

@@ -4,5 +4,5 @@ use borrow.Author.Rules.{rules}
 use Rattle.playing.proofs.unchanged.Statement.{statement}
 use Rattle.playing.proofs.unchanged.Tie as tie
 
-pub unchanged-spec : {M : Type 1} → statement M
-unchanged-spec = tie.close (tie.spec (search rules) (λ c. rw c.with-link.ensures))
+pub unchanged_spec : {M : Type 1} → statement M
+unchanged_spec = tie.close (tie.spec (search rules) (λ c. rw c.with-link.ensures))

@@ -3,7 +3,7 @@
 use mathlib.Core.Path.{refl}
 use borrow.Author.Rules.{rules}
 use Rattle.notation.specs.Ascii.{ascii}
-use Rattle.playing.proofs.Arms.{not-show}
+use Rattle.playing.proofs.Arms.{not_show}
 use Rattle.playing.proofs.unopened.Statement.{statement}
 use Rattle.playing.proofs.unopened.Tie as tie
 
@@ -16,10 +16,10 @@ returns c = record {
 
 returns-2 : tie.Need-returns-2
 returns-2 c = record {
-  show = λ h. absurd (not-show _ c.before.before.before.before.match.keys2 h);
+  show = λ h. absurd (not_show _ c.before.before.before.before.match.keys2 h);
   other = λ h. c.before.before.refused.ensures;
 }
 
-pub unopened-spec : {M : Type 1} → statement M
-unopened-spec = tie.close (tie.spec (search rules) (search rules) (search rules) (search rules) (search rules) returns (search rules)
+pub unopened_spec : {M : Type 1} → statement M
+unopened_spec = tie.close (tie.spec (search rules) (search rules) (search rules) (search rules) (search rules) returns (search rules)
     returns-2)

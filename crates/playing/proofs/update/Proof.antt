@@ -37,8 +37,8 @@ returns-3 c =
       says = rw c.before.before.before.before.before.answer2.given.1 c.before.before.refused.ensures;
     }
 
-pub update-spec : {M : Type 1} → statement M
-update-spec =
+pub update_spec : {M : Type 1} → statement M
+update_spec =
     tie.close
     (tie.spec
     (search rules)

@@ -14,15 +14,15 @@ use Rattle.pools.proofs.copy_part.Statement.{statement}
 use Rattle.pools.proofs.copy_part.Tie as tie
 
 -- the first of what is left, and the rest
-part-cons : (l : List ℕ) (i n m : ℕ) → n ≡ suc m → i < length l → part l i n ≡ get_or l i 0 ∷ part l (suc i) m
-part-cons l i n m e h = rw (e, drop-cons l i 0)
+part_cons : (l : List ℕ) (i n m : ℕ) → n ≡ suc m → i < length l → part l i n ≡ get_or l i 0 ∷ part l (suc i) m
+part_cons l i n m e h = rw (e, drop-cons l i 0)
 
 step : (src out out₀ : List ℕ) (from at len i : ℕ) → i < len → from + len ≤ length src
     → sets out (at + i) (part src (from + i) (len - i)) ≡ sets out₀ at (part src from len)
     → sets (set out (at + i) (get_or src (from + i) 0)) (at + (i + 1)) (part src (from + (i + 1)) (len - (i + 1))) ≡ sets out₀ at
     (part src from len)
 step src out out₀ from at len i more long e =
-    rw (add-one i, add-suc, add-suc) (rw (part-cons src (from + i) (len - i) (len - suc i) (omega arith) (omega arith)) at e)
+    rw (add-one i, add-suc, add-suc) (rw (part_cons src (from + i) (len - i) (len - suc i) (omega arith) (omega arith)) at e)
 
 abbrev invariant-loop : tie.invariant-loop
 invariant-loop src from len out₀ at i₀ out i =
@@ -49,8 +49,8 @@ returns c =
     let none : c.before.before.args.len - l.i ≡ 0 = omega arith in
     rw none at l.invariant.2
 
-pub copy-part-spec : {M : Type 1} → statement M
-copy-part-spec =
+pub copy_part_spec : {M : Type 1} → statement M
+copy_part_spec =
     tie.close
     (tie.spec
     invariant-loop

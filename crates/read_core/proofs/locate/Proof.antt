@@ -10,9 +10,9 @@ use Rattle.control.specs.declared.Link.{Link}
 use Rattle.timing.specs.declared.Record.{Record}
 use Rattle.checking.specs.Verdicts.{Flown, Admitted}
 use Rattle.checking.specs.VerdictLaws.{admitted}
-use Rattle.promises.specs.Parts.{lentLengths}
-use Rattle.promises.specs.Outcomes.{showsWith}
-use Rattle.read_core.proofs.Blocks.{block-counts, passes, passes-readable, refuses}
+use Rattle.promises.specs.Parts.{lent_lengths}
+use Rattle.promises.specs.Outcomes.{shows_with}
+use Rattle.read_core.proofs.Blocks.{block_counts, passes, passes_readable, refuses}
 use Rattle.read_core.proofs.Places.{placed, unplaced}
 use Rattle.read_core.specs.Messages.{Readable}
 use Rattle.read_core.proofs.locate.Statement.{statement}
@@ -25,7 +25,7 @@ block s = let a = s.args in link_of a.settings a.flight a.arrival a.clock
 
 -- the lengths of the lent parts
 abbrev lent : tie.Start → Lengths
-lent s = let a = s.args in lentLengths a.table a.send-pool.now a.receive-pool.now a.acks.now
+lent s = let a = s.args in lent_lengths a.table a.send-pool.now a.receive-pool.now a.acks.now
 
 -- the verdict on 7 and 13
 judged : (c : tie.After-judged) (rs : List Record) → let sizes = c.before in let s = sizes.before.before.before.before in
@@ -41,7 +41,7 @@ passed : (c : tie.After-enum-told) → let s = c.before.before.before.before.bef
 passed c =
     let verdict = c.before.before in
     let s = verdict.before.before.before.before.before in
-    passes-readable (block s) s.requires.1.0 s.args.acks.now (lent s) _ verdict.before.enough.ensures _
+    passes_readable (block s) s.requires.1.0 s.args.acks.now (lent s) _ verdict.before.enough.ensures _
     (judged verdict s.requires.1.0 s.requires.1.1).verdict c.enum_told.given.1 s.args.receive-pool.now refl
 
 front-place-requires : tie.Need-front-place-requires
@@ -50,13 +50,13 @@ front-place-requires c κs =
     let s = k.before.before.before.before.before.before.before in
     let ok = passed k in (
       s.requires.0.whole_ready,
-      (block-counts (block s) ok.counts).ready,
+      (block_counts (block s) ok.counts).ready,
       rw c.mss.ensures ok.inside.each,
-      rw c.mss.ensures ok.mss-low,
+      rw c.mss.ensures ok.mss_low,
     )
 
 returns : tie.Need-returns
-unfolding showsWith
+unfolding shows_with
 returns c = λ rs w.
     let k = c.before.before in
     let verdict = k.before.before in
@@ -66,15 +66,15 @@ returns c = λ rs w.
     k.enum_told.given.1) (passed k) _ c.before.mss.ensures _ c.front-place.ensures
 
 returns-2 : tie.Need-returns-2
-unfolding showsWith
+unfolding shows_with
 returns-2 c = λ rs w.
     let verdict = c.before.before.before in
     let s = verdict.before.before.before.before.before in
     unplaced _ _ (refuses (block s) rs s.args.acks.now (lent s) _ verdict.before.enough.ensures _ (judged verdict rs w).verdict
     _ _ c.before.verdict.given.1) (length s.args.receive-pool.now)
 
-pub locate-spec : {M : Type 1} → statement M
-locate-spec =
+pub locate_spec : {M : Type 1} → statement M
+locate_spec =
     tie.close
     (tie.spec
     (λ c κs. search rules)

@@ -14,5 +14,5 @@ returns c =
     let e : a.place.start + a.place.count - a.place.start ≡ a.place.count = omega arith in
     (record { block = refl; offset = omega arith }, ap (λ (n : ℕ). take n (drop a.place.start a.pool.now)) e)
 
-pub part-at-spec : {M : Type 1} → statement M
-part-at-spec = tie.close (tie.spec (λ c. search rules) (λ c. search rules) (λ c. search rules) (λ c. search rules) returns)
+pub part_at_spec : {M : Type 1} → statement M
+part_at_spec = tie.close (tie.spec (λ c. search rules) (λ c. search rules) (λ c. search rules) (λ c. search rules) returns)

@@ -9,10 +9,10 @@ use Rattle.control.specs.declared.Link.{Link}
 use Rattle.timing.specs.declared.Record.{Record}
 use Rattle.checking.specs.Verdicts.{Flown, Admitted}
 use Rattle.checking.specs.VerdictLaws.{admitted}
-use Rattle.promises.specs.Parts.{lentLengths}
-use Rattle.promises.specs.Outcomes.{readsWith}
-use Rattle.read_core.proofs.Blocks.{block-counts, passes, passes-readable, refuses}
-use Rattle.read_core.proofs.Readings.{reads-block, own_read, not-read}
+use Rattle.promises.specs.Parts.{lent_lengths}
+use Rattle.promises.specs.Outcomes.{reads_with}
+use Rattle.read_core.proofs.Blocks.{block_counts, passes, passes_readable, refuses}
+use Rattle.read_core.proofs.Readings.{reads_block, own_read, not_read}
 use Rattle.read_core.specs.Messages.{Readable}
 use Rattle.read_core.proofs.read.Statement.{statement}
 use Rattle.read_core.proofs.read.Tie as tie
@@ -24,7 +24,7 @@ block s = let a = s.args in link_of a.settings a.flight a.arrival a.clock
 
 -- the lengths of the lent parts
 abbrev lent : tie.Start → Lengths
-lent s = let a = s.args in lentLengths a.table a.send-pool.now a.receive-pool.now a.acks.now
+lent s = let a = s.args in lent_lengths a.table a.send-pool.now a.receive-pool.now a.acks.now
 
 -- the verdict on 7 and 13
 judged : (c : tie.After-judged) (rs : List Record) → let sizes = c.before in let s = sizes.before.before.before.before.before in
@@ -40,7 +40,7 @@ passed : (c : tie.After-enum-told) → let s = c.before.before.before.before.bef
 passed c =
     let verdict = c.before.before in
     let s = verdict.before.before.before.before.before.before in
-    passes-readable (block s) s.requires.1.0 s.args.acks.now (lent s) _ verdict.before.enough.ensures _
+    passes_readable (block s) s.requires.1.0 s.args.acks.now (lent s) _ verdict.before.enough.ensures _
     (judged verdict s.requires.1.0 s.requires.1.1).verdict c.enum_told.given.1 s.args.receive-pool.now refl
 
 read-message-requires : tie.Need-read-message-requires
@@ -49,14 +49,14 @@ read-message-requires c κs =
     let k = mss.before in
     let s = k.before.before.before.before.before.before.before.before in
     let w = s.requires.0 in
-    let n = block-counts (block s) (passed k).counts in (
-      record { whole_ready = w.whole_ready; whole-waiting = w.whole-waiting; whole_numbers = w.whole_numbers },
-      record { few-ready = n.ready; few-waiting = n.waiting },
+    let n = block_counts (block s) (passed k).counts in (
+      record { whole_ready = w.whole_ready; whole_waiting = w.whole_waiting; whole_numbers = w.whole_numbers },
+      record { few_ready = n.ready; few_waiting = n.waiting },
       rw mss.mss.ensures (passed k).inside,
     )
 
 returns : tie.Need-returns
-unfolding readsWith
+unfolding reads_with
 returns c = λ rs w.
     let reads = c.before.before in
     let mss = reads.before.before.before.before.before in
@@ -66,16 +66,16 @@ returns c = λ rs w.
     let a = s.args in
     own_read (block s) _ _ _ _ _ _ _ _ _ (passes (block s) rs a.acks.now (lent s) _ verdict.before.enough.ensures _
     (judged verdict rs w).verdict k.enum_told.given.1)
-    (reads-block a.settings a.flight a.arrival a.clock a.queued.now a.outstanding.now a.transmissions.now
+    (reads_block a.settings a.flight a.arrival a.clock a.queued.now a.outstanding.now a.transmissions.now
     a.ready.now a.waiting.now a.waiting-numbers.now _ a.acks.now a.receive-pool.now a.buffer.now _ _ _ _ _ _ _
     mss.mss.ensures (passed k) reads.read-message.ensures)
 
 returns-2 : tie.Need-returns-2
-unfolding readsWith
+unfolding reads_with
 returns-2 c = λ rs w.
     let verdict = c.before.before.before in
     let s = verdict.before.before.before.before.before.before in
-    not-read _ _ (refuses (block s) rs s.args.acks.now (lent s) _ verdict.before.enough.ensures _ (judged verdict rs w).verdict
+    not_read _ _ (refuses (block s) rs s.args.acks.now (lent s) _ verdict.before.enough.ensures _ (judged verdict rs w).verdict
     _ _ c.before.verdict.given.1) (block s) _ _ s.args.buffer.now
 
 pub read_spec : {M : Type 1} → statement M

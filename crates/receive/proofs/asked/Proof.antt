@@ -7,8 +7,8 @@ use Rattle.control.specs.Views.{is_set}
 use Rattle.receive.proofs.asked.Statement.{statement}
 use Rattle.receive.proofs.asked.Tie as tie
 
-pub asked-spec : {M : Type 1} → statement M
-asked-spec =
+pub asked_spec : {M : Type 1} → statement M
+asked_spec =
     tie.close
     (tie.spec
     (λ c. rw (eq-eqb _ _ c.if1.true, or-true (is_set c.before.args.tell)) refl)

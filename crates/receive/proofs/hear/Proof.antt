@@ -4,14 +4,14 @@ use mathlib.Core.Path.{◌≡◌, refl, sym, ◌∙◌}
 use Prim.Native.Nat.{◌-◌, ◌<◌, ◌^◌}
 use borrow.Author.Rules.{rules}
 use lib.ListN.{length}
-use Rattle.datagram.specs.Datagrams.{stepAt}
+use Rattle.datagram.specs.Datagrams.{step_at}
 use Rattle.datagram.specs.declared.Step.TheVariants as step
-use Rattle.receive.proofs.Steps.{heard-push}
-use Rattle.receive.proofs.Walks.{Walking, walking_start, walking-inside, walking-fits, walking-less, walking-more, walking-end}
+use Rattle.receive.proofs.Steps.{heard_push}
+use Rattle.receive.proofs.Walks.{Walking, walking_start, walking_inside, walking_fits, walking_less, walking_more, walking_end}
 use Rattle.arriving.specs.Arrivals.{WholeLists}
 use Rattle.receive.specs.Halves.{half_of}
 use Rattle.receive.specs.Pushes.{Marked}
-use Rattle.receive.proofs.Pushed.{pushable, heard-asked}
+use Rattle.receive.proofs.Pushed.{pushable, heard_asked}
 use Rattle.receive.proofs.hear.Statement.{statement}
 use Rattle.receive.proofs.hear.Tie as tie
 
@@ -39,7 +39,7 @@ loop-holds c =
 -- a segment was found
 found : (k : tie.After-known-told invariant-loop decreases-loop) →
     let l = k.before.before.before.before in
-    (stepAt l.before.before.before.before.args.s.now l.loop.at ≡ step.Segment k.before.step.given.0.0
+    (step_at l.before.before.before.before.args.s.now l.loop.at ≡ step.Segment k.before.step.given.0.0
     k.before.step.given.0.1.0 k.before.step.given.0.1.1.0)
 found k = sym k.before.before.before.segment-at.ensures ∙ k.before.step.given.1
 
@@ -47,12 +47,12 @@ less : (k : tie.After-known-told invariant-loop decreases-loop) →
     let l = k.before.before.before.before in
     length l.before.before.before.before.args.s.now - k.before.step.given.0.1.1.0 < length
     l.before.before.before.before.args.s.now - l.loop.at
-less k = walking-less _ _ _ _ _ _ _ _ _ k.before.before.before.before.loop.invariant.1 _ _ _ (found k)
+less k = walking_less _ _ _ _ _ _ _ _ _ k.before.before.before.before.loop.invariant.1 _ _ _ (found k)
 
 returns : tie.Need-returns invariant-loop decreases-loop
 returns c =
     let v = c.before.before.before.loop.invariant in
-    (v.0, walking-end _ _ _ _ _ _ _ _ _ v.1 (sym c.before.before.segment-at.ensures ∙ c.enum_told.given.1))
+    (v.0, walking_end _ _ _ _ _ _ _ _ _ v.1 (sym c.before.before.segment-at.ensures ∙ c.enum_told.given.1))
 
 loop-again : tie.Need-loop-preserved invariant-loop decreases-loop
 loop-again c =
@@ -61,8 +61,8 @@ loop-again c =
     let v = l.loop.invariant in
     let g = k.before.step.given.0 in (
       v.0,
-      walking-more _ _ _ _ _ _ _ _ _ v.1 _ _ _ (found k) _ _ _
-          (heard-asked _ l.loop.a l.loop.ready l.loop.waiting l.loop.numbers _ _
+      walking_more _ _ _ _ _ _ _ _ _ v.1 _ _ _ (found k) _ _ _
+          (heard_asked _ l.loop.a l.loop.ready l.loop.waiting l.loop.numbers _ _
           l.before.before.before.before.args.s.now g.1.0 g.0 c.asked.result c.asked.ensures c.before.if1.true
           v.1.sound v.1.low),
       record { whole = v.2.whole; free = v.2.free },
@@ -77,8 +77,8 @@ push-requires c κs =
     let v = l.loop.invariant in (
       v.0,
       pushable _ _ _ _ _ _ k.before.step.given.0.0 _ _ _ c.before.before.before.before.before.mss.ensures v.1.sound
-          v.2 (walking-inside _ _ _ _ _ _ _ _ _ v.1 _ _ _ (found k))
-          (walking-fits _ _ _ _ _ _ _ _ _ v.1 _ _ _ (found k) c.before.before.before.before.before.before.if1.false),
+          v.2 (walking_inside _ _ _ _ _ _ _ _ _ v.1 _ _ _ (found k))
+          (walking_fits _ _ _ _ _ _ _ _ _ v.1 _ _ _ (found k) c.before.before.before.before.before.before.if1.false),
     )
 
 loop-again-2 : tie.Need-loop-preserved-2 invariant-loop decreases-loop
@@ -89,8 +89,8 @@ loop-again-2 c =
     let g = k.before.step.given.0 in
     let e = c.before.before.before.before.before.push.ensures in (
       e.0,
-      walking-more _ _ _ _ _ _ _ _ _ v.1 _ _ _ (found k) _ _ _
-          (heard-push _ _ _ _ l.before.before.before.before.args.s.now g.1.0 g.0 _ _ _
+      walking_more _ _ _ _ _ _ _ _ _ v.1 _ _ _ (found k) _ _ _
+          (heard_push _ _ _ _ l.before.before.before.before.args.s.now g.1.0 g.0 _ _ _
           c.before.before.before.before.before.before.before.before.before.before.before.before.if1.false
           (rw c.before.before.before.before.before.before.before.before.before.before.before.mss.ensures at e.1.is)),
       e.1.marked,
@@ -98,8 +98,8 @@ loop-again-2 c =
       search rules,
     )
 
-pub hear-spec : {M : Type 1} → statement M
-hear-spec =
+pub hear_spec : {M : Type 1} → statement M
+hear_spec =
     tie.close
     (tie.spec
     invariant-loop

@@ -9,8 +9,8 @@ use Rattle.receive.proofs.push.Tie as tie
 low : (a : tie.Start) → a.args.arrival.expected < 2 ^ 32
 low a = search rules
 
-sn-low : (a : tie.Start) → a.args.h.sn < 2 ^ 32
-sn-low a = search rules
+sn_low : (a : tie.Start) → a.args.h.sn < 2 ^ 32
+sn_low a = search rules
 
 keep-requires : tie.Need-keep-requires
 keep-requires c κs =
@@ -24,7 +24,7 @@ returns c =
     let g = a.args in
     let e = c.before.before.keep.ensures in (
       e.0,
-      heard g.arrival g.ready.now g.waiting.now g.numbers.now _ _ _ _ _ _ _ _ a.requires.1 (low a) (sn-low a) _ _
+      heard g.arrival g.ready.now g.waiting.now g.numbers.now _ _ _ _ _ _ _ _ a.requires.1 (low a) (sn_low a) _ _
           c.before.before.before.before.before.before.before.before.before.note.ensures _ _ _ _ e.0 _ _ e.1,
     )
 

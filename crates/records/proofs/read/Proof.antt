@@ -167,7 +167,7 @@ use Rattle.timing.specs.declared.Record.{Record}
 use Rattle.records.specs.Tables.{blank}
 use Rattle.timing.specs.contracts.Record as T
 use Rattle.timing.proofs.Record.TheLaws as T'
-use Rattle.records.proofs.Rows.{R, mach, bytes_fit, typed, makes, ref, looks-record, shuts_record, opens-record, closes-record}
+use Rattle.records.proofs.Rows.{R, mach, bytes_fit, typed, makes, ref, looks_record, shuts_record, opens_record, closes_record}
 use Rattle.records.specs.contracts.read.Key.{name as #f}
 use Rattle.records.specs.contracts.read as f
 use Rattle.records.proofs.read.Statement as stated
@@ -265,7 +265,7 @@ module _ {M : Type 1} {𝓤 : Ura M} (𝓛 : Logic 𝓤) (mem : Memory → SProp
         assigns ! (bin ! (load ! (from ! (fld ! refl (stop !))) (look_in ! 18 (sub ! 0 refl (whole !))))
         (load ! (from ! (stop !)) (look ! 8 refl)) tt) (from ! (stop !)) (init ! 6 refl (tt, tt)) $
         rewrite ! 6 (λ (p : ℕ). ‵ (fat full_share ty_ptr l₇ 0 (vptr b p))) (sym (place_is 16 o i)) refl $
-        looks-record b o γ ! tt ys n i (ltb→lt i n h) (λ q' g.
+        looks_record b o γ ! tt ys n i (ltb→lt i n h) (λ q' g.
         assigns ! (of_opd ! (load ! (from ! (hop ! (look ! 6 refl) (stop !))) (look_raw ! 0 refl))) (from ! (stop !))
         (init ! 4 refl (typed 𝓛 (get_or ys i blank) g)) $
         shuts_record b o γ ! tt q' ys n i (ltb→lt i n h) $
@@ -282,8 +282,8 @@ module _ {M : Type 1} {𝓤 : Ura M} (𝓛 : Logic 𝓤) (mem : Memory → SProp
 module _ {M : Type 1} {𝓤 : Ura M} (𝓛 : Logic 𝓤) (mem : Memory → SProp 𝓤) (run : Routine → Fun 𝓤) where
   open 𝓛 use {H}
 
-  f-walks : (C : Calls 𝓤 H) (Λ : Loops 𝓤 H) → Walks 𝓛 f.ended stayed (WpFn 𝓤 H C Λ code.function) (f.clauses 𝓛 mem run)
-  f-walks C Λ = walked 𝓛 f.ended stayed (f.clauses 𝓛 mem run) (WpFn 𝓤 H C Λ code.function) (λ κs. (shr_slice_vals, (uint_vals w64, tt)))
+  f_walks : (C : Calls 𝓤 H) (Λ : Loops 𝓤 H) → Walks 𝓛 f.ended stayed (WpFn 𝓤 H C Λ code.function) (f.clauses 𝓛 mem run)
+  f_walks C Λ = walked 𝓛 f.ended stayed (f.clauses 𝓛 mem run) (WpFn 𝓤 H C Λ code.function) (λ κs. (shr_slice_vals, (uint_vals w64, tt)))
       (λ κs. (shr_slice_Tells (named 0) κs.0 R, (uint_Tells w64, tt)))
       (λ κs qs bounds a g are. via 𝓤 _ (fst∗ 𝓤 _ (emp 𝓤))
       (walk 𝓛 mem run κs.0 qs.0 a.0.ref_ptr.0 a.0.ref_ptr.1 a.0.ghost_name a.0.now a.1.0 C Λ are.0.0.1
@@ -295,7 +295,7 @@ f_meets : {M : Type 1} {𝓤 : Ura M} (𝓛 : Logic 𝓤) →
 f_meets {𝓤 = 𝓤} 𝓛 mem run 𝓣 = walk_Meets 𝓛 f.ended stayed
     (Goes-none_slice 𝓛 1 (0 ∷ []) tt (plain (λ _. R)) yes, (Goes-none 𝓛 1 (λ _. usize) yes (λ κs x f. refl), tt))
     (f.clauses 𝓛 mem run) (WpFn 𝓤 𝓛.H 𝓣.C 𝓣.Λ code.function) (WpFn-mono 𝓤 𝓛.H 𝓛.laws 𝓣 code.function)
-    (f-walks 𝓛 mem run 𝓣.C 𝓣.Λ)
+    (f_walks 𝓛 mem run 𝓣.C 𝓣.Λ)
 
 pub read_spec : {M : Type 1} → stated.statement M
 unfolding code.routine tables_of

@@ -168,7 +168,7 @@ use Rattle.timing.specs.declared.Record.{Record}
 use Rattle.records.specs.Tables.{blank}
 use Rattle.timing.specs.contracts.Record as T
 use Rattle.timing.proofs.Record.TheLaws as T'
-use Rattle.records.proofs.Rows.{R, mach, bytes_fit, typed, makes, ref, looks-record, shuts_record, opens-record, closes-record}
+use Rattle.records.proofs.Rows.{R, mach, bytes_fit, typed, makes, ref, looks_record, shuts_record, opens_record, closes_record}
 use Rattle.records.specs.contracts.replace.Key.{name as #f}
 use Rattle.records.specs.contracts.replace as f
 use Rattle.records.proofs.replace.Statement as stated
@@ -265,11 +265,11 @@ module _ {M : Type 1} {𝓤 : Ura M} (𝓛 : Logic 𝓤) (mem : Memory → SProp
         assigns ! (bin ! (load ! (from ! (fld ! refl (stop !))) (look_in ! 15 (sub ! 0 refl (whole !))))
         (load ! (from ! (stop !)) (look ! 5 refl)) tt) (from ! (stop !)) (init ! 3 refl (tt, tt)) $
         rewrite ! 3 (λ (p : ℕ). ‵ (fat full_share ty_ptr l₇ 0 (vptr b p))) (sym (place_is 16 o i)) refl $
-        opens-record b o γ ! tt ys n i (ltb→lt i n h) $
+        opens_record b o γ ! tt ys n i (ltb→lt i n h) $
         assigns_last ! (of_opd ! (load ! (from ! (stop !)) (look ! 11 refl))) (from ! (hop ! (look ! 3 refl) (stop !)))
         (store_raw ! 0 refl (typed 𝓛 v gv)) $
         exec ! C Λ (En l₀ l₁ l₂ l₃ l₄ l₅ l₆ l₇) body.t-4 (at_ret (En l₀ l₁ l₂ l₃ l₄ l₅ l₆ l₇) Post) $
-        closes-record b o γ ! tt ys n i (ltb→lt i n h) refl gn v gv $
+        closes_record b o γ ! tt ys n i (ltb→lt i n h) refl gn v gv $
         forget ! 3 refl $ forget ! 5 refl $ by ! (rest l₀ l₁ l₂ l₃ l₄ l₅ l₆ l₇ (ltb i n)))
         (λ h. skips ! $ rewrite ! 0 (λ (l : List Record). ‵ ((MutSlice (named 0) κ R).own_val (ref b o γ l) (s ∷ [])))
         (sym (set_out ys i v (nltb→le i n h))) refl $ by ! (rest l₀ l₁ l₂ l₃ l₄ l₅ l₆ l₇ (ltb i n)))))))))))
@@ -277,8 +277,8 @@ module _ {M : Type 1} {𝓤 : Ura M} (𝓛 : Logic 𝓤) (mem : Memory → SProp
 module _ {M : Type 1} {𝓤 : Ura M} (𝓛 : Logic 𝓤) (mem : Memory → SProp 𝓤) (run : Routine → Fun 𝓤) where
   open 𝓛 use {H}
 
-  f-walks : (C : Calls 𝓤 H) (Λ : Loops 𝓤 H) → Walks 𝓛 f.ended stayed (WpFn 𝓤 H C Λ code.function) (f.clauses 𝓛 mem run)
-  f-walks C Λ = walked 𝓛 f.ended stayed (f.clauses 𝓛 mem run) (WpFn 𝓤 H C Λ code.function)
+  f_walks : (C : Calls 𝓤 H) (Λ : Loops 𝓤 H) → Walks 𝓛 f.ended stayed (WpFn 𝓤 H C Λ code.function) (f.clauses 𝓛 mem run)
+  f_walks C Λ = walked 𝓛 f.ended stayed (f.clauses 𝓛 mem run) (WpFn 𝓤 H C Λ code.function)
       (λ κs. (mut_slice_vals, (uint_vals w64, (LL.vals T.the_type T'.the_laws, tt))))
       (λ κs. (mut_slice_Tells (named 0) κs.0 R, (uint_Tells w64, (LL.tells T.the_type T'.the_laws, tt))))
       (λ κs qs bounds a g are. via 𝓤 _ (fst∗ 𝓤 _ (emp 𝓤))
@@ -293,7 +293,7 @@ f_meets {𝓤 = 𝓤} 𝓛 mem run 𝓣 = walk_Meets 𝓛 f.ended stayed (
   (Goes-none 𝓛 1 (λ _. usize) yes (λ κs x f. refl), (Goes-none 𝓛 1 (λ _. R) yes (λ κs x f. refl), tt)),
 )
     (f.clauses 𝓛 mem run) (WpFn 𝓤 𝓛.H 𝓣.C 𝓣.Λ code.function) (WpFn-mono 𝓤 𝓛.H 𝓛.laws 𝓣 code.function)
-    (f-walks 𝓛 mem run 𝓣.C 𝓣.Λ)
+    (f_walks 𝓛 mem run 𝓣.C 𝓣.Λ)
 
 pub replace_spec : {M : Type 1} → stated.statement M
 unfolding code.routine tables_of

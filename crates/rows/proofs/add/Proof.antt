@@ -7,7 +7,7 @@ use native.Mathlib.Omega.{arith}
 use borrow.Author.Rules.{rules}
 use lib.ListN.{length, get_or}
 use Rattle.galois.specs.Field.{plus}
-use Rattle.rows.specs.RowLaws.{Done, done_next, sum, sum-at, sum-none, sum-all}
+use Rattle.rows.specs.RowLaws.{Done, done_next, sum, sum_at, sum_none, sum_all}
 use Rattle.rows.proofs.add.Statement.{statement}
 use Rattle.rows.proofs.add.Tie as tie
 
@@ -20,7 +20,7 @@ decreases-loop row₀ at other i₀ row i = length other - i
 loop-holds : tie.Need-loop-init invariant-loop decreases-loop
 loop-holds c = (
   omega arith,
-  rw add-zero (sum-none c.before.before.args.row.now c.before.before.args.at
+  rw add-zero (sum_none c.before.before.args.row.now c.before.before.args.at
       c.before.before.args.other.now),
 )
 
@@ -50,7 +50,7 @@ loop-again c = (
       c.before.before.before.before.loop.i 0))
       (c.before.before.before.before.loop.invariant.1.unchanged
       (c.before.before.before.before.before.before.before.args.at + c.before.before.before.before.loop.i) (omega arith))
-      ∙ sum-at c.before.before.before.before.before.before.before.args.row.now
+      ∙ sum_at c.before.before.before.before.before.before.before.args.row.now
       c.before.before.before.before.before.before.before.args.at
       c.before.before.before.before.before.before.before.args.other.now c.before.before.before.before.loop.i)),
 )
@@ -59,7 +59,7 @@ same_length : tie.Need-same-length invariant-loop decreases-loop
 same_length c = c.before.loop.invariant.1.size
 
 returns : tie.Need-returns invariant-loop decreases-loop
-returns c = sum-all c.before.before.before.before.args.row.now c.before.before.before.before.args.at
+returns c = sum_all c.before.before.before.before.args.row.now c.before.before.before.before.args.at
     c.before.before.before.before.args.other.now c.before.loop.i c.before.loop.row c.before.loop.invariant.1
     c.loop-test.false c.before.loop.invariant.0
 

@@ -49,8 +49,8 @@ returns c = done_all (λ x. plus (get_or c.before.before.before.before.before.ar
     c.before.loop.i c.before.before.before.before.before.args.row.now c.before.loop.row c.before.loop.invariant.1
     (omega (arith, c.before.loop.invariant.1.size))
 
-pub add-multiple-spec : {M : Type 1} → statement M
-add-multiple-spec =
+pub add_multiple_spec : {M : Type 1} → statement M
+add_multiple_spec =
     tie.close
     (tie.spec
     invariant-loop

@@ -36,8 +36,8 @@ returns : tie.Need-returns invariant-loop decreases-loop
 returns c = done_all (λ x. double (get_or c.before.before.before.args.row.now x 0)) c.before.loop.i
     c.before.before.before.args.row.now c.before.loop.row c.before.loop.invariant (omega (arith, c.before.loop.invariant.size))
 
-pub double-spec : {M : Type 1} → statement M
-double-spec =
+pub double_spec : {M : Type 1} → statement M
+double_spec =
     tie.close
     (tie.spec
     invariant-loop

@@ -41,8 +41,8 @@ returns c = done_all (λ x. mul c.before.before.before.before.args.c (get_or c.b
     c.before.loop.i c.before.before.before.before.args.row.now c.before.loop.row c.before.loop.invariant
     (omega (arith, c.before.loop.invariant.size))
 
-pub multiply-spec : {M : Type 1} → statement M
-multiply-spec =
+pub multiply_spec : {M : Type 1} → statement M
+multiply_spec =
     tie.close
     (tie.spec
     invariant-loop

@@ -33,8 +33,8 @@ returns c =
     (omega (arith, c.before.loop.invariant.1)) in
     record { size = r.size ∙ c.before.loop.invariant.1; byte = λ x l. r.byte x (omega (arith, c.before.loop.invariant.1)) }
 
-pub products-spec : {M : Type 1} → statement M
-products-spec =
+pub products_spec : {M : Type 1} → statement M
+products_spec =
     tie.close
     (tie.spec
     invariant-loop

@@ -4,7 +4,7 @@ use mathlib.Core.Path.{refl, sym, ◌∙◌}
 use borrow.Author.Rules.{rules}
 use lib.ListN.{get_or}
 use Rattle.rows.specs.Rows.{stepped}
-use Rattle.rows.specs.RowLaws.{stepped-second}
+use Rattle.rows.specs.RowLaws.{stepped_second}
 use Rattle.rows.proofs.step.Statement.{statement}
 use Rattle.rows.proofs.step.Tie as tie
 
@@ -16,7 +16,7 @@ returns-2 : tie.Need-returns-2
 returns-2 c = record {
   size = c.before.before.double.ensures.size;
   byte = λ x l. c.before.before.double.ensures.byte x l ∙ sym
-      (stepped-second c.before.before.before.before.before.before.args.w
+      (stepped_second c.before.before.before.before.before.before.args.w
       (get_or c.before.before.before.before.before.before.args.row.now x 0) c.before.before.before.before.if1.false);
 }
 

@@ -2,13 +2,13 @@
 -- Assumes nothing.
 use borrow.Author.Tests.{ne_eqb}
 use Rattle.notation.specs.Ascii.{ascii}
-use Rattle.script.specs.Commands.{letters, ofFive}
+use Rattle.script.specs.Commands.{letters, of_five}
 use Rattle.script.proofs.of_five.Statement.{statement}
 use Rattle.script.proofs.of_five.Tie as tie
 
-pub of-five-spec : {M : Type 1} → statement M
-unfolding ofFive letters ascii
-of-five-spec =
+pub of_five_spec : {M : Type 1} → statement M
+unfolding of_five letters ascii
+of_five_spec =
     tie.close
     (tie.spec
     (λ c. rw c.if1.true)

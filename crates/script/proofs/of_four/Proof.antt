@@ -6,9 +6,9 @@ use Rattle.script.specs.Commands.{letters, of_four}
 use Rattle.script.proofs.of_four.Statement.{statement}
 use Rattle.script.proofs.of_four.Tie as tie
 
-pub of-four-spec : {M : Type 1} → statement M
+pub of_four_spec : {M : Type 1} → statement M
 unfolding of_four letters ascii
-of-four-spec =
+of_four_spec =
     tie.close
     (tie.spec
     (search rules)

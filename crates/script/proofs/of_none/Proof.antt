@@ -6,9 +6,9 @@ use Rattle.script.specs.Commands.{letters, of_none}
 use Rattle.script.proofs.of_none.Statement.{statement}
 use Rattle.script.proofs.of_none.Tie as tie
 
-pub of-none-spec : {M : Type 1} → statement M
+pub of_none_spec : {M : Type 1} → statement M
 unfolding of_none letters ascii
-of-none-spec =
+of_none_spec =
     tie.close
     (tie.spec
     (λ c. rw c.match.keys1)

@@ -2,13 +2,13 @@
 -- Assumes nothing.
 use borrow.Author.Tests.{ne_eqb}
 use Rattle.notation.specs.Ascii.{ascii}
-use Rattle.script.specs.Commands.{letters, ofOne}
+use Rattle.script.specs.Commands.{letters, of_one}
 use Rattle.script.proofs.of_one.Statement.{statement}
 use Rattle.script.proofs.of_one.Tie as tie
 
-pub of-one-spec : {M : Type 1} → statement M
-unfolding ofOne letters ascii
-of-one-spec =
+pub of_one_spec : {M : Type 1} → statement M
+unfolding of_one letters ascii
+of_one_spec =
     tie.close
     (tie.spec
     (λ c. rw c.if1.true)

@@ -3,13 +3,13 @@
 use borrow.Author.Rules.{rules}
 use borrow.Author.Tests.{ne_eqb}
 use Rattle.notation.specs.Ascii.{ascii}
-use Rattle.script.specs.Commands.{letters, ofTwo}
+use Rattle.script.specs.Commands.{letters, of_two}
 use Rattle.script.proofs.of_two.Statement.{statement}
 use Rattle.script.proofs.of_two.Tie as tie
 
-pub of-two-spec : {M : Type 1} → statement M
-unfolding ofTwo letters ascii
-of-two-spec =
+pub of_two_spec : {M : Type 1} → statement M
+unfolding of_two letters ascii
+of_two_spec =
     tie.close
     (tie.spec
     (λ c. rw c.if1.true)

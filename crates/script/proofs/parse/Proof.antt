@@ -8,23 +8,23 @@ use borrow.Author.Tests.{lt-ltb, le-ltb}
 use lib.ListN.{length, take, drop}
 use lib.Seq.{length-take-le}
 use Rattle.notation.specs.Ascii.{ascii}
-use Rattle.script.specs.Commands.{word, arguments, numbersOf, letters, name_of, commandOf, bytesLeft}
-use Rattle.script.specs.CommandLaws.{word-front, few-enough}
+use Rattle.script.specs.Commands.{word, arguments, numbers_of, letters, name_of, command_of, bytes_left}
+use Rattle.script.specs.CommandLaws.{word_front, few_enough}
 use Rattle.script.proofs.parse.Statement.{statement}
 use Rattle.script.proofs.parse.Tie as tie
 
 returns : tie.Need-returns
-unfolding commandOf bytesLeft
+unfolding command_of bytes_left
 returns c = record { command = rw (lt-ltb _ _ c.if1.true); bytes = rw (lt-ltb _ _ c.if1.true) }
 
 returns-2 : tie.Need-returns-2
-unfolding commandOf bytesLeft letters ascii
+unfolding command_of bytes_left letters ascii
 returns-2 c =
     let line = c.before.before.before.before.before.before.before.before.before.before.before.args.line.now in
     let end : c.before.before.before.before.before.before.before.word-end.result ≡ length (word line) =
     omega (arith, c.before.before.before.before.before.before.before.word-end.ensures.0) in
     let name : c.before.before.before.before.before.name.result ≡ name_of (word line) =
-    c.before.before.before.before.before.name.ensures ∙ ap name_of (ap (λ (k : ℕ). take k line) end ∙ word-front line) in
+    c.before.before.before.before.before.name.ensures ∙ ap name_of (ap (λ (k : ℕ). take k line) end ∙ word_front line) in
     record {
       command = rw (
         le-ltb _ _ c.before.before.before.before.before.before.before.before.if1.false,
@@ -41,13 +41,13 @@ returns-2 c =
     }
 
 returns-3 : tie.Need-returns-3
-unfolding commandOf bytesLeft letters ascii
+unfolding command_of bytes_left letters ascii
 returns-3 c =
     let line = c.before.before.before.before.before.before.before.before.before.args.line.now in
     let end : c.before.before.before.before.before.word-end.result ≡ length (word line) =
     omega (arith, c.before.before.before.before.before.word-end.ensures.0) in
     let name : c.before.before.before.name.result ≡ name_of (word line) =
-    c.before.before.before.name.ensures ∙ ap name_of (ap (λ (k : ℕ). take k line) end ∙ word-front line) in
+    c.before.before.before.name.ensures ∙ ap name_of (ap (λ (k : ℕ). take k line) end ∙ word_front line) in
     record {
       command = rw (
         le-ltb _ _ c.before.before.before.before.before.before.if1.false,
@@ -55,13 +55,13 @@ returns-3 c =
         c.before.before.if2.false,
         ← end,
       ) (c.of-numbers.ensures ∙ rw c.before.behind.ensures
-          (few-enough c.before.before.before.name.result
-          (numbersOf (arguments (drop c.before.before.before.before.before.word-end.result line)))));
+          (few_enough c.before.before.before.name.result
+          (numbers_of (arguments (drop c.before.before.before.before.before.word-end.result line)))));
       bytes = rw (le-ltb _ _ c.before.before.before.before.before.before.if1.false, ← name, c.before.before.if2.false);
     }
 
-pub parse-spec : {M : Type 1} → statement M
-parse-spec =
+pub parse_spec : {M : Type 1} → statement M
+parse_spec =
     tie.close
     (tie.spec
     returns

@@ -5,13 +5,13 @@ use mathlib.Core.List.{List}
 use Prim.Native.Nat.{ℕ}
 use borrow.Author.Rules.{rules}
 use lib.ListN.{length}
-use Rattle.protocol.specs.Ranges.{isStream}
+use Rattle.protocol.specs.Ranges.{is_stream}
 use Rattle.timing.specs.declared.Record.{Record}
 use Rattle.control.specs.Views.{Arrays, arrays, link_of}
 use Rattle.control.specs.declared.Link.{Link}
 use Rattle.checking.specs.Verdicts.{Flown, Admitted}
 use Rattle.checking.specs.VerdictLaws.{admitted}
-use Rattle.promises.specs.Parts.{lentLengths}
+use Rattle.promises.specs.Parts.{lent_lengths}
 use Rattle.sizes.specs.declared.Lengths.{Lengths}
 use Rattle.send_core.proofs.Sends.{Sendable, sendable, refuses, enqueueable, sent, passes}
 use Rattle.send_core.proofs.send.Statement.{statement}
@@ -23,7 +23,7 @@ lists s = let a = s.args in arrays a.queued.now a.outstanding.now a.transmission
     a.waiting-numbers.now
 
 abbrev lent : tie.Start → Lengths
-lent s = let a = s.args in lentLengths a.table a.send-pool.now a.receive-pool.now a.acks.now
+lent s = let a = s.args in lent_lengths a.table a.send-pool.now a.receive-pool.now a.acks.now
 
 -- the block before
 abbrev block : tie.Start → Link
@@ -56,7 +56,7 @@ send-checked-requires c κs =
     let passed = mss.before in
     let s = passed.before.before.before.before.before.before.before.before in
     enqueueable s.args.settings s.args.flight s.args.arrival s.args.clock (lists s) s.requires.1.0 s.args.acks.now
-    (checked passed s.requires.1.0 s.requires.1.1) {stream = isStream s.args.settings} refl mss.mss.ensures s.requires.0 _ refl
+    (checked passed s.requires.1.0 s.requires.1.1) {stream = is_stream s.args.settings} refl mss.mss.ensures s.requires.0 _ refl
 
 returns : tie.Need-returns
 returns c = λ rs w.
@@ -75,10 +75,10 @@ returns-2 c = λ rs w.
     passes s.args.settings s.args.flight s.args.arrival s.args.clock (lists s) rs s.args.acks.now (lent s) _ _
     verdict.before.enough.ensures ((judged verdict rs w).verdict _) passed.enum_told.given.1 _ _ _ _ _
     (sent s.args.settings s.args.flight s.args.arrival s.args.clock (lists s) rs s.args.acks.now (checked passed rs w)
-    (isStream s.args.settings) _ refl mss.mss.ensures _ _ sends.send-checked.result _ _ sends.send-checked.ensures)
+    (is_stream s.args.settings) _ refl mss.mss.ensures _ _ sends.send-checked.result _ _ sends.send-checked.ensures)
 
-pub send-spec : {M : Type 1} → statement M
-send-spec =
+pub send_spec : {M : Type 1} → statement M
+send_spec =
     tie.close
     (tie.spec
     (λ c κs. search rules)

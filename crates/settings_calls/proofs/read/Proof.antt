@@ -2,7 +2,7 @@
 -- Assumes nothing.
 use borrow.Author.Rules.{rules}
 use Rattle.codes.proofs.Signs.{passed}
-use Rattle.settings_calls.proofs.FileCodes.{refusal-fits, stored, left_alone}
+use Rattle.settings_calls.proofs.FileCodes.{refusal_fits, stored, left_alone}
 use Rattle.settings_calls.proofs.read.Statement.{statement}
 use Rattle.settings_calls.proofs.read.Tie as tie
 
@@ -15,7 +15,7 @@ returns-2 : tie.Need-returns-2
 returns-2 c =
     let given = c.before.before.before.reading2.given in
     left_alone _ _ _ given.0.0 _ c.before.before.before.before.before.read.ensures given.1
-    (passed _ (refusal-fits given.0.0) (rw c.before.number.ensures at c.number-code.ensures))
+    (passed _ (refusal_fits given.0.0) (rw c.before.number.ensures at c.number-code.ensures))
 
 pub read_spec : {M : Type 1} → statement M
 read_spec =

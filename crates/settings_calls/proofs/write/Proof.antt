@@ -2,14 +2,14 @@
 -- Assumes nothing.
 use borrow.Author.Rules.{rules}
 use Rattle.codes.proofs.Signs.{passed}
-use Rattle.settings_calls.proofs.FileCodes.{writing-fits}
+use Rattle.settings_calls.proofs.FileCodes.{writing_fits}
 use Rattle.settings_calls.proofs.write.Statement.{statement}
 use Rattle.settings_calls.proofs.write.Tie as tie
 
 returns : tie.Need-returns
 returns c = record {
   answer = c.before.before.before.write.result;
-  number = passed _ (writing-fits c.before.before.before.write.result) c.writing-code.ensures;
+  number = passed _ (writing_fits c.before.before.before.write.result) c.writing-code.ensures;
   promise = rw c.before.before.before.before.before.settings.ensures at c.before.before.before.write.ensures;
 }
 

@@ -10,5 +10,5 @@ returns c = rw (rw (c.before.before.in-range.ensures, c.before.fits-first.ensure
 returns-2 : tie.Need-returns-2
 returns-2 c = rw (rw (c.before.before.in-range.ensures, c.before.fits-first.ensures) at c.if1.false)
 
-pub first-ranged-spec : {M : Type 1} → statement M
-first-ranged-spec = tie.close (tie.spec (λ c κs. search rules) (λ c κs. search rules) returns returns-2)
+pub first_ranged_spec : {M : Type 1} → statement M
+first_ranged_spec = tie.close (tie.spec (λ c κs. search rules) (λ c κs. search rules) returns returns-2)

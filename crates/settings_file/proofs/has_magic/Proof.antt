@@ -5,19 +5,19 @@ use mathlib.Core.Bool.{true}
 use Prim.Native.Nat.{◌-◌, ◌≤◌}
 use native.Mathlib.Omega.{arith}
 use borrow.Author.Rules.{rules}
-use Rattle.settings_file.specs.Files.{magic, sameFirst, hasMagic}
+use Rattle.settings_file.specs.Files.{magic, same_first, has_magic}
 use Rattle.settings_file.specs.FileLaws.{same_more, not_same}
 use Rattle.settings_file.proofs.has_magic.Statement.{statement}
 use Rattle.settings_file.proofs.has_magic.Tie as tie
 
 abbrev invariant-loop : tie.invariant-loop
-invariant-loop file m i₀ i = (i ≤ 3) × (sameFirst i file magic ≡ true)
+invariant-loop file m i₀ i = (i ≤ 3) × (same_first i file magic ≡ true)
 
 abbrev decreases-loop : tie.decreases-loop
 decreases-loop file m i₀ i = 3 - i
 
 loop-holds : tie.Need-loop-init invariant-loop decreases-loop
-unfolding sameFirst
+unfolding same_first
 loop-holds c = (search rules, refl)
 
 shared-slice-read-if1 : tie.Need-shared-slice-read-if1 invariant-loop decreases-loop
@@ -27,7 +27,7 @@ array-read-if1 : tie.Need-array-read-if1 invariant-loop decreases-loop
 array-read-if1 c = search rules
 
 returns : tie.Need-returns invariant-loop decreases-loop
-unfolding hasMagic
+unfolding has_magic
 returns c = sym (not_same _ magic 3 _ (search rules) c.if1.true)
 
 add-i : tie.Need-overflow-add-i invariant-loop decreases-loop
@@ -40,11 +40,11 @@ loop-again : tie.Need-loop-preserved invariant-loop decreases-loop
 loop-again c = (search rules, same_more _ magic _ c.before.before.before.loop.invariant.1 c.if1.false)
 
 returns-2 : tie.Need-returns-2 invariant-loop decreases-loop
-unfolding hasMagic
+unfolding has_magic
 returns-2 c =
     let e : 3 ≡ c.before.loop.i = omega arith in
     rw e (sym c.before.loop.invariant.1)
 
-pub has-magic-spec : {M : Type 1} → statement M
-has-magic-spec = tie.close (tie.spec invariant-loop decreases-loop loop-holds shared-slice-read-if1 array-read-if1 returns add-i loop-less loop-again
+pub has_magic_spec : {M : Type 1} → statement M
+has_magic_spec = tie.close (tie.spec invariant-loop decreases-loop loop-holds shared-slice-read-if1 array-read-if1 returns add-i loop-less loop-again
     returns-2)

@@ -2,14 +2,14 @@
 -- Assumes nothing.
 use borrow.Author.Rules.{rules}
 use mathlib.Core.Path.{sym, ◌∙◌}
-use Rattle.settings_file.specs.FileLaws.{first-put, second-put}
+use Rattle.settings_file.specs.FileLaws.{first_put, second_put}
 use Rattle.settings_file.proofs.put_file.Statement.{statement}
 use Rattle.settings_file.proofs.put_file.Tie as tie
 
 returns : tie.Need-returns
 returns c =
     let front = c.before.before.before.before.before.before in
-    first-put _ _
+    first_put _ _
     (sym front.before.before.before.fits-first.ensures ∙ front.before.before.if1.true)
     front.put_front.ensures
     c.before.before.put_back.ensures
@@ -17,14 +17,14 @@ returns c =
 returns-2 : tie.Need-returns-2
 returns-2 c =
     let front = c.before.before.before.before.before.before.before.before.before.before in
-    second-put _ _
+    second_put _ _
     (sym front.before.before.before.fits-first.ensures ∙ front.before.before.if1.false)
     front.put-front2.ensures
     c.before.before.before.before.before.before.put-back2.ensures
     c.before.before.put-added.ensures
 
-pub put-file-spec : {M : Type 1} → statement M
-put-file-spec =
+pub put_file_spec : {M : Type 1} → statement M
+put_file_spec =
     tie.close
     (tie.spec
     (λ c κs. search rules)

@@ -12,5 +12,5 @@ returns c = rw (ne_eqb _ 15 c.if1.true)
 returns-2 : tie.Need-returns-2
 returns-2 c = c.first-ranged.ensures ∙ rw (c.before.settings-at.ensures, eq-eqb _ 15 c.before.before.if1.false)
 
-pub read-first-spec : {M : Type 1} → statement M
-read-first-spec = tie.close (tie.spec returns (λ c κs. search rules) (λ c κs. search rules) returns-2)
+pub read_first_spec : {M : Type 1} → statement M
+read_first_spec = tie.close (tie.spec returns (λ c κs. search rules) (λ c κs. search rules) returns-2)

@@ -19,6 +19,6 @@ returns-2 c =
       eq-eqb _ 17 c.before.before.before.before.if1.false,
     )
 
-pub read-second-spec : {M : Type 1} → statement M
-read-second-spec =
+pub read_second_spec : {M : Type 1} → statement M
+read_second_spec =
     tie.close (tie.spec returns (λ c κs. search rules) (λ c κs. search rules) (λ c κs. search rules) (λ c κs. search rules) returns-2)

@@ -18,5 +18,5 @@ returns-2 c =
 returns-3 : tie.Need-returns-3
 returns-3 c = rw (sym c.before.in-range.ensures ∙ c.if1.false)
 
-pub second-ranged-spec : {M : Type 1} → statement M
-second-ranged-spec = tie.close (tie.spec (λ c κs. search rules) (λ c κs. search rules) returns returns-2 returns-3)
+pub second_ranged_spec : {M : Type 1} → statement M
+second_ranged_spec = tie.close (tie.spec (λ c κs. search rules) (λ c κs. search rules) returns returns-2 returns-3)

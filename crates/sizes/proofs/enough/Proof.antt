@@ -21,5 +21,5 @@ returns : tie.Need-returns
 unfolding enough
 returns c = cc
 
-pub enough-spec : {M : Type 1} → statement M
-enough-spec = tie.close (tie.spec mss-requires mul-result mul-result-2 mul-result-3 returns)
+pub enough_spec : {M : Type 1} → statement M
+enough_spec = tie.close (tie.spec mss-requires mul-result mul-result-2 mul-result-3 returns)

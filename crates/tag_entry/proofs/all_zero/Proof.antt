@@ -34,6 +34,6 @@ returns c =
     let s = c.before.before.args.s.now in
     l.invariant.1 ∙ ap (every is_zero) (take_all l.i s (omega arith))
 
-pub all-zero-spec : {M : Type 1} → statement M
-all-zero-spec = tie.close (tie.spec invariant-loop decreases-loop loop-holds (λ c. search rules) (λ c. search rules) (λ c. search rules) loop-again
+pub all_zero_spec : {M : Type 1} → statement M
+all_zero_spec = tie.close (tie.spec invariant-loop decreases-loop loop-holds (λ c. search rules) (λ c. search rules) (λ c. search rules) loop-again
     returns)

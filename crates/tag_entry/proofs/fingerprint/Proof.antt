@@ -6,7 +6,7 @@ use native.Mathlib.Omega.{arith}
 use borrow.Author.Rules.{rules}
 use lib.ListN.{length, drop}
 use Rattle.tag_entry.specs.Fingerprints.{mixed}
-use Rattle.tag_entry.specs.EntryLaws.{mixed-step, mixed-end}
+use Rattle.tag_entry.specs.EntryLaws.{mixed_step, mixed_end}
 use Rattle.tag_entry.proofs.fingerprint.Statement.{statement}
 use Rattle.tag_entry.proofs.fingerprint.Tie as tie
 
@@ -29,16 +29,16 @@ loop-again : tie.Need-loop-preserved invariant-loop decreases-loop
 loop-again c =
     let l = c.before.before.loop in
     let s = c.before.before.before.args.name.now in
-    (search rules, omega arith, sym (mixed-step s l.f l.i (omega arith)) ∙ l.invariant.2)
+    (search rules, omega arith, sym (mixed_step s l.f l.i (omega arith)) ∙ l.invariant.2)
 
 returns : tie.Need-returns invariant-loop decreases-loop
 returns c =
     let l = c.before.loop in
     let s = c.before.before.args.name.now in
-    (sym (mixed-end s l.f l.i (omega arith)) ∙ l.invariant.2, l.invariant.1)
+    (sym (mixed_end s l.f l.i (omega arith)) ∙ l.invariant.2, l.invariant.1)
 
-pub fingerprint-spec : {M : Type 1} → statement M
-fingerprint-spec =
+pub fingerprint_spec : {M : Type 1} → statement M
+fingerprint_spec =
     tie.close
     (tie.spec
     invariant-loop

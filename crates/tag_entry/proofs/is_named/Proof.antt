@@ -13,8 +13,8 @@ returns-2 : tie.Need-returns-2
 returns-2 c = other_length c.before.before.before.before.args.e.now _ c.before.before.before.before.requires.0
     c.before.before.before.before.requires.1 c.if1.false
 
-pub is-named-spec : {M : Type 1} → statement M
-is-named-spec =
+pub is_named_spec : {M : Type 1} → statement M
+is_named_spec =
     tie.close
     (tie.spec
     (λ c. search rules)

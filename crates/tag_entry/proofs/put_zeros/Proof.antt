@@ -7,7 +7,7 @@ use native.Mathlib.Omega.{arith}
 use borrow.Author.Rules.{rules}
 use lib.ListN.{length, replicate, length-set}
 use lib.Seq.{sets}
-use Rattle.tag_entry.specs.EntryLaws.{zeros-step}
+use Rattle.tag_entry.specs.EntryLaws.{zeros_step}
 use Rattle.tag_entry.proofs.put_zeros.Statement.{statement}
 use Rattle.tag_entry.proofs.put_zeros.Tie as tie
 
@@ -25,7 +25,7 @@ loop-again : tie.Need-loop-preserved invariant-loop decreases-loop
 loop-again c =
     let l = c.before.loop in
     let a = c.before.before.args in
-    (omega arith, simp length-set l.invariant.1, sym (zeros-step l.out a.at a.len l.i (omega arith)) ∙ l.invariant.2)
+    (omega arith, simp length-set l.invariant.1, sym (zeros_step l.out a.at a.len l.i (omega arith)) ∙ l.invariant.2)
 
 returns : tie.Need-returns invariant-loop decreases-loop
 returns c =
@@ -33,8 +33,8 @@ returns c =
     let none : c.before.before.args.len - l.i ≡ 0 = omega arith in
     rw none at l.invariant.2
 
-pub put-zeros-spec : {M : Type 1} → statement M
-put-zeros-spec =
+pub put_zeros_spec : {M : Type 1} → statement M
+put_zeros_spec =
     tie.close
     (tie.spec
     invariant-loop

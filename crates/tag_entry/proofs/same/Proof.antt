@@ -6,13 +6,13 @@ use native.Mathlib.Omega.{arith}
 use borrow.Author.Rules.{rules}
 use borrow.Author.Tests.{ne_eqb, eq-eqb}
 use lib.ListN.{length, drop, get_or}
-use Rattle.tag_entry.specs.Entries.{sameBytes}
+use Rattle.tag_entry.specs.Entries.{same_bytes}
 use Rattle.tag_entry.specs.EntryLaws.{same_step, same_end}
 use Rattle.tag_entry.proofs.same.Statement.{statement}
 use Rattle.tag_entry.proofs.same.Tie as tie
 
 abbrev invariant-loop : tie.invariant-loop
-invariant-loop a b i₀ i = (i ≤ length a) × (sameBytes (drop i a) (drop i b) ≡ sameBytes a b)
+invariant-loop a b i₀ i = (i ≤ length a) × (same_bytes (drop i a) (drop i b) ≡ same_bytes a b)
 
 abbrev decreases-loop : tie.decreases-loop
 decreases-loop a b i₀ i = length a - i

@@ -9,23 +9,23 @@ use Rattle.tag_find.proofs.ask.Statement.{statement}
 use Rattle.tag_find.proofs.ask.Tie as tie
 
 -- the part lies in its table
-in-own : (c : tie.After-known-told)
+in_own : (c : tie.After-known-told)
     → finding.Inside c.before.before.before.before.before.before.before.args.own.now c.before.part.given.0.0
-in-own c = finding.in-own-table _ _ _ _ c.before.before.before.find.ensures _ c.before.part.given.1
+in_own c = finding.in_own_table _ _ _ _ c.before.before.before.find.ensures _ c.before.part.given.1
 
-in-defaults : (c : tie.After-known-told2)
+in_defaults : (c : tie.After-known-told2)
     → finding.Inside c.before.before.before.before.before.before.before.args.defaults.now c.before.part2.given.0.0
-in-defaults c = finding.in-defaults-table _ _ _ _ c.before.before.before.find.ensures _ c.before.part2.given.1
+in_defaults c = finding.in_defaults_table _ _ _ _ c.before.before.before.find.ensures _ c.before.part2.given.1
 
 returns : tie.Need-returns
 returns c =
     let k = c.before.before in
-    rw (sym k.before.before.before.find.ensures ∙ k.before.part.given.1) (finding.part_of _ _ (in-own k) refl refl refl)
+    rw (sym k.before.before.before.find.ensures ∙ k.before.part.given.1) (finding.part_of _ _ (in_own k) refl refl refl)
 
 returns-2 : tie.Need-returns-2
 returns-2 c =
     let k = c.before.before in
-    rw (sym k.before.before.before.find.ensures ∙ k.before.part2.given.1) (finding.part_of _ _ (in-defaults k) refl refl refl)
+    rw (sym k.before.before.before.find.ensures ∙ k.before.part2.given.1) (finding.part_of _ _ (in_defaults k) refl refl refl)
 
 returns-3 : tie.Need-returns-3
 returns-3 c = rw (sym c.before.before.before.find.ensures ∙ c.before.enum_told.given.1)
@@ -33,21 +33,21 @@ returns-3 c = rw (sym c.before.before.before.find.ensures ∙ c.before.enum_told
 returns-4 : tie.Need-returns-4
 returns-4 c = rw (sym c.before.before.before.find.ensures ∙ c.before.enum-told2.given.1)
 
-pub ask-spec : {M : Type 1} → statement M
-ask-spec =
+pub ask_spec : {M : Type 1} → statement M
+ask_spec =
     tie.close
     (tie.spec
     (λ c κs. search rules)
     (λ c. search rules)
-    (λ c. omega (arith, in-own c.before))
+    (λ c. omega (arith, in_own c.before))
     (λ c. search rules)
     (λ c. search rules)
-    (λ c. omega (arith, in-own c.before))
+    (λ c. omega (arith, in_own c.before))
     (λ c. search rules)
-    (λ c. omega (arith, in-defaults c.before))
+    (λ c. omega (arith, in_defaults c.before))
     (λ c. search rules)
     (λ c. search rules)
-    (λ c. omega (arith, in-defaults c.before))
+    (λ c. omega (arith, in_defaults c.before))
     (λ c. search rules)
     (λ c. search rules)
     (λ c. search rules)

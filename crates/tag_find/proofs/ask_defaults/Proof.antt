@@ -11,7 +11,7 @@ use Rattle.tag_find.proofs.ask_defaults.Tie as tie
 -- the part lies in its table
 inside : (c : tie.After-known-told)
     → finding.Inside c.before.before.before.before.before.before.before.args.defaults.now c.before.part.given.0.0
-inside c = finding.in-defaults-table _ _ _ _ c.before.before.before.find.ensures _ c.before.part.given.1
+inside c = finding.in_defaults_table _ _ _ _ c.before.before.before.find.ensures _ c.before.part.given.1
 
 returns : tie.Need-returns
 returns c =
@@ -27,8 +27,8 @@ returns-3 c = rw (sym c.before.before.before.find.ensures ∙ c.before.enum-told
 returns-4 : tie.Need-returns-4
 returns-4 c = rw (sym c.before.before.before.find.ensures ∙ c.before.enum-told3.given.1)
 
-pub ask-defaults-spec : {M : Type 1} → statement M
-ask-defaults-spec =
+pub ask_defaults_spec : {M : Type 1} → statement M
+ask_defaults_spec =
     tie.close
     (tie.spec
     (λ c κs. search rules)

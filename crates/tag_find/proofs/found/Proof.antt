@@ -17,8 +17,8 @@ returns-3 c = rw (← c.before.before.find.ensures, c.enum-told3.given.1)
 returns-4 : tie.Need-returns-4
 returns-4 c = rw (← c.before.before.before.find.ensures, c.before.refusal.given.1)
 
-pub found-spec : {M : Type 1} → statement M
-found-spec =
+pub found_spec : {M : Type 1} → statement M
+found_spec =
     tie.close
     (tie.spec
     (λ c κs. search rules)

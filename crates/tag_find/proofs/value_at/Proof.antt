@@ -13,5 +13,5 @@ cast-t8 c = omega (arith, c.shared-slice-known.given (98 * c.before.args.i + 33)
 returns : tie.Need-returns
 returns c = finding.value-at c.before.args.table.now c.before.args.i c.before.requires.1
 
-pub value-at-spec : {M : Type 1} → statement M
-value-at-spec = tie.close (tie.spec (λ c. search rules) (λ c. search rules) (λ c. search rules) (λ c. search rules) cast-t8 returns)
+pub value_at_spec : {M : Type 1} → statement M
+value_at_spec = tie.close (tie.spec (λ c. search rules) (λ c. search rules) (λ c. search rules) (λ c. search rules) cast-t8 returns)

@@ -1,13 +1,13 @@
 -- `tag_message::is_tag` meets its contract.
 -- Assumes nothing.
 use borrow.Author.Rules.{rules}
-use Rattle.tag_message.specs.Tags.{isTag}
+use Rattle.tag_message.specs.Tags.{is_tag}
 use Rattle.tag_message.proofs.is_tag.Statement.{statement}
 use Rattle.tag_message.proofs.is_tag.Tie as tie
 
 returns : tie.Need-returns
-unfolding isTag
+unfolding is_tag
 returns c = rw c.is_name.ensures
 
-pub is-tag-spec : {M : Type 1} → statement M
-is-tag-spec = tie.close (tie.spec (λ c κs. search rules) returns)
+pub is_tag_spec : {M : Type 1} → statement M
+is_tag_spec = tie.close (tie.spec (λ c κs. search rules) returns)

@@ -19,7 +19,7 @@ returns : tie.Need-returns
 returns c = c.before.before.copy-part.ensures ∙ rw
     (add-one, take-length c.before.before.before.before.before.before.args.bytes.now)
 
-pub put-counted-spec : {M : Type 1} → statement M
-put-counted-spec =
+pub put_counted_spec : {M : Type 1} → statement M
+put_counted_spec =
     tie.close
     (tie.spec (λ c. search rules) (λ c. search rules) (λ c. search rules) copy-part-requires same_length returns)

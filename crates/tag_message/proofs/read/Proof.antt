@@ -4,12 +4,12 @@ use Prim.Native.Nat.{◌+◌}
 use native.Mathlib.Omega.{arith}
 use borrow.Author.Rules.{rules}
 use lib.ListN.{get_or}
-use Rattle.tag_message.specs.MessageLaws.{short-message, tested, no-message, message}
+use Rattle.tag_message.specs.MessageLaws.{short_message, tested, no_message, message}
 use Rattle.tag_message.proofs.read.Statement.{statement}
 use Rattle.tag_message.proofs.read.Tie as tie
 
 returns : tie.Need-returns
-returns c = short-message _ (omega arith)
+returns c = short_message _ (omega arith)
 
 cast-name : tie.Need-overflow-cast-name
 cast-name c = omega (arith, c.shared-slice-known2.given 0)
@@ -18,7 +18,7 @@ add-middle : tie.Need-overflow-add-middle
 add-middle c = omega (arith, c.shared-slice-known2.given 0)
 
 returns-2 : tie.Need-returns-2
-returns-2 c = short-message _ (omega arith)
+returns-2 c = short_message _ (omega arith)
 
 cast-value : tie.Need-overflow-cast-value
 cast-value c = omega (arith, c.shared-slice-known3.given (1 + get_or c.before.before.before.before.before.args.message.now 0 0))
@@ -32,7 +32,7 @@ returns-3 : tie.Need-returns-3
 returns-3 c = message _ (tested _ c.before.is_name.ensures c.if3.true)
 
 returns-4 : tie.Need-returns-4
-returns-4 c = no-message _ (tested _ c.before.is_name.ensures c.if3.false)
+returns-4 c = no_message _ (tested _ c.before.is_name.ensures c.if3.false)
 
 pub read_spec : {M : Type 1} → statement M
 read_spec =

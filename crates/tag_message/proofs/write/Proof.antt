@@ -3,7 +3,7 @@
 use mathlib.Core.Path.{sym, ◌∙◌}
 use native.Mathlib.Omega.{arith}
 use borrow.Author.Rules.{rules}
-use Rattle.tag_message.specs.MessageLaws.{no_room, no-tag, written, message-stored, tag-lengths}
+use Rattle.tag_message.specs.MessageLaws.{no_room, no_tag, written, message_stored, tag_lengths}
 use Rattle.tag_message.proofs.write.Statement.{statement}
 use Rattle.tag_message.proofs.write.Tie as tie
 
@@ -11,7 +11,7 @@ returns : tie.Need-returns
 returns c = no_room _ _ _ (omega arith)
 
 put-counted-requires : tie.Need-put-counted-requires
-put-counted-requires c κs = omega (arith, tag-lengths _ _ (sym c.before.before.is-tag.ensures ∙ c.before.if2.true))
+put-counted-requires c κs = omega (arith, tag_lengths _ _ (sym c.before.before.is-tag.ensures ∙ c.before.if2.true))
 
 put-counted-requires-2 : tie.Need-put-counted-requires-2
 put-counted-requires-2 c κs =
@@ -19,23 +19,23 @@ put-counted-requires-2 c κs =
     omega (
       arith,
       k.put-counted.auto.0,
-      tag-lengths _ _ (sym k.before.before.before.is-tag.ensures ∙ k.before.before.if2.true),
+      tag_lengths _ _ (sym k.before.before.before.is-tag.ensures ∙ k.before.before.if2.true),
     )
 
 add-t16 : tie.Need-overflow-add-t16
 add-t16 c =
     let k = c.before.before.before.before.before.before in
-    omega (arith, tag-lengths _ _ (sym k.before.before.before.is-tag.ensures ∙ k.before.before.if2.true))
+    omega (arith, tag_lengths _ _ (sym k.before.before.before.is-tag.ensures ∙ k.before.before.if2.true))
 
 returns-2 : tie.Need-returns-2
 returns-2 c =
     let k = c.before.before.before.before.before.before in
     written _ _ _ (omega (arith, k.before.before.before.before))
     (sym k.before.before.before.is-tag.ensures ∙ k.before.before.if2.true)
-    (message-stored _ _ _ k.put-counted.ensures c.before.before.put-counted2.ensures)
+    (message_stored _ _ _ k.put-counted.ensures c.before.before.put-counted2.ensures)
 
 returns-3 : tie.Need-returns-3
-returns-3 c = no-tag _ _ _ (omega arith) (sym c.before.is-tag.ensures ∙ c.if2.false)
+returns-3 c = no_tag _ _ _ (omega arith) (sym c.before.is-tag.ensures ∙ c.if2.false)
 
 pub write_spec : {M : Type 1} → statement M
 write_spec =

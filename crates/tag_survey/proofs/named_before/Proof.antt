@@ -6,14 +6,14 @@ use Prim.Native.Nat.{◌-◌, ◌≤◌}
 use native.Mathlib.Omega.{arith}
 use borrow.Author.Rules.{rules}
 use lib.ListN.{take}
-use Rattle.tag_entry.specs.Entries.{isNamed}
-use Rattle.tag_survey.specs.Tables.{entriesIn, some}
+use Rattle.tag_entry.specs.Entries.{is_named}
+use Rattle.tag_survey.specs.Tables.{entries_in, some}
 use Rattle.tag_survey.specs.SurveyLaws as law
 use Rattle.tag_survey.proofs.named_before.Statement.{statement}
 use Rattle.tag_survey.proofs.named_before.Tie as tie
 
 abbrev invariant-loop : tie.invariant-loop
-invariant-loop table i name j₀ j = (j ≤ i) × (some (isNamed name) (take j (entriesIn table)) ≡ false)
+invariant-loop table i name j₀ j = (j ≤ i) × (some (is_named name) (take j (entries_in table)) ≡ false)
 
 abbrev decreases-loop : tie.decreases-loop
 decreases-loop table i name j₀ j = i - j
@@ -26,7 +26,7 @@ is-named-requires : tie.Need-is-named-requires invariant-loop decreases-loop
 is-named-requires c κs =
     let l = c.before.before.loop in
     let s = c.before.before.before.before.before in
-    law.asks-named s.args.table.now s.args.i l.j (omega arith) (omega arith) s.requires.0 s.requires.2
+    law.asks_named s.args.table.now s.args.i l.j (omega arith) (omega arith) s.requires.0 s.requires.2
 
 returns : tie.Need-returns invariant-loop decreases-loop
 returns c =
@@ -39,7 +39,7 @@ loop-again c =
     let l = c.before.before.before.before.loop in
     let a = c.before.before.before.before.before.before.before.args in (
       omega arith,
-      law.named-not a.table.now a.name.now l.j (omega arith) c.before.is-named.ensures c.if1.false
+      law.named_not a.table.now a.name.now l.j (omega arith) c.before.is-named.ensures c.if1.false
           l.invariant.1,
     )
 
@@ -50,8 +50,8 @@ returns-2 c =
     let all : l.j ≡ a.i = omega arith in
     rw (← all) (sym l.invariant.1)
 
-pub named-before-spec : {M : Type 1} → statement M
-named-before-spec =
+pub named_before_spec : {M : Type 1} → statement M
+named_before_spec =
     tie.close
     (tie.spec
     invariant-loop

@@ -15,5 +15,5 @@ returns-2 c = rw (eq-eqb _ _ c.before.if1.true, c.if2.false)
 returns-3 : tie.Need-returns-3
 returns-3 c = rw (ne_eqb _ _ c.if1.false)
 
-pub passed-spec : {M : Type 1} → statement M
-passed-spec = tie.close (tie.spec returns (λ c. search rules) returns-2 returns-3)
+pub passed_spec : {M : Type 1} → statement M
+passed_spec = tie.close (tie.spec returns (λ c. search rules) returns-2 returns-3)

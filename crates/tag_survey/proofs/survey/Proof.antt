@@ -21,7 +21,7 @@ is-entry-requires : tie.Need-is-entry-requires invariant-loop decreases-loop
 is-entry-requires c κs =
     let l = c.before.before.loop in
     let s = c.before.before.before.before.before in
-    law.lent-size s.args.table.now l.i c.before.loop-test.true s.requires
+    law.lent_size s.args.table.now l.i c.before.loop-test.true s.requires
 
 returns : tie.Need-returns invariant-loop decreases-loop
 returns c =
@@ -53,7 +53,7 @@ with-requires c κs =
     let below = entry.before.before.loop-test.true in
     let z = law.tested t _ _ _ l.i l.invariant below s.requires entry.is-entry.ensures
     (not-false _ c.before.before.before.if1.false) in
-    (below, law.lent-size t l.i below s.requires, law.lent-short t l.i below (law.tested-here t l.i z))
+    (below, law.lent_size t l.i below s.requires, law.lent_short t l.i below (law.tested_here t l.i z))
 
 loop-again : tie.Need-loop-preserved invariant-loop decreases-loop
 loop-again c =
@@ -72,8 +72,8 @@ returns-3 c =
     let l = c.before.loop in
     law.ends _ _ _ _ _ l.invariant c.loop-test.false
 
-pub survey-spec : {M : Type 1} → statement M
-survey-spec =
+pub survey_spec : {M : Type 1} → statement M
+survey_spec =
     tie.close
     (tie.spec
     invariant-loop

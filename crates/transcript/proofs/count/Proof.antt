@@ -2,17 +2,17 @@
 -- Assumes nothing.
 use borrow.Author.Rules.{rules}
 use Rattle.notation.specs.Ascii.{ascii}
-use Rattle.notation.specs.PutLaws.{put-length}
-use Rattle.transcript.specs.Lines.{countLine}
+use Rattle.notation.specs.PutLaws.{put_length}
+use Rattle.transcript.specs.Lines.{count_line}
 use Rattle.transcript.proofs.count.Statement.{statement}
 use Rattle.transcript.proofs.count.Tie as tie
 
 returns : tie.Need-returns
-unfolding countLine ascii
+unfolding count_line ascii
 returns c = rw c.before.before.before.before.before.before.count.given.1 c.before.before.number-line.ensures
 
 returns-2 : tie.Need-returns-2
-unfolding countLine
+unfolding count_line
 returns-2 c = rw c.before.before.before.before.before.count2.given.1 c.before.before.refused.ensures
 
 pub count_spec : {M : Type 1} → statement M
@@ -24,7 +24,7 @@ count_spec =
     (search rules)
     (search rules)
     (search rules)
-    (λ c. put-length _ _ _ _ _ (returns c))
+    (λ c. put_length _ _ _ _ _ (returns c))
     returns
-    (λ c. put-length _ _ _ _ _ (returns-2 c))
+    (λ c. put_length _ _ _ _ _ (returns-2 c))
     returns-2)

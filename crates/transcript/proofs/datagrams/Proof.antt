@@ -6,16 +6,16 @@ use native.Mathlib.Omega.{arith}
 use borrow.Author.Rules.{rules}
 use lib.ListN.{length, take}
 use Rattle.notation.specs.Ascii.{ascii}
-use Rattle.notation.specs.PutLaws.{put-length, Partly, partly_none, partly_more, partly-all}
-use Rattle.transcript.specs.Lines.{datagramLines}
-use Rattle.transcript.specs.LineLaws.{left, lines-last, lines_cut, lines_next}
+use Rattle.notation.specs.PutLaws.{put_length, Partly, partly_none, partly_more, partly_all}
+use Rattle.transcript.specs.Lines.{datagram_lines}
+use Rattle.transcript.specs.LineLaws.{left, lines_last, lines_cut, lines_next}
 use Rattle.transcript.proofs.datagrams.Statement.{statement}
 use Rattle.transcript.proofs.datagrams.Tie as tie
 
 abbrev invariant-loop : tie.invariant-loop
 invariant-loop out₀ at packed lengths n most here₀ from₀ i₀ t12 out here from i =
     (i ≤ most) × (most ≡ min n (length lengths)) × (from ≤ length packed)
-    × Partly out₀ at (datagramLines packed (take n lengths)) here out (left packed lengths n from i)
+    × Partly out₀ at (datagram_lines packed (take n lengths)) here out (left packed lengths n from i)
 
 abbrev decreases-loop : tie.decreases-loop
 decreases-loop out₀ at packed lengths n most here₀ from₀ i₀ t12 out here from i = most - i
@@ -28,7 +28,7 @@ returns c =
     let l = c.before.before.before.before.loop in
     let a = c.before.before.before.before.before.before.before.before.before.args in
     let read = c.before.wide.ensures.0 in
-    partly-all _ _ _ _ _ _ l.invariant.3 (lines_cut a.packed.now a.lengths.now a.n l.from l.i (omega arith) (omega arith))
+    partly_all _ _ _ _ _ _ l.invariant.3 (lines_cut a.packed.now a.lengths.now a.n l.from l.i (omega arith) (omega arith))
 
 loop-again : tie.Need-loop-preserved invariant-loop decreases-loop
 unfolding ascii
@@ -49,10 +49,10 @@ returns-2 : tie.Need-returns-2 invariant-loop decreases-loop
 returns-2 c =
     let l = c.before.loop in
     let a = c.before.before.before.before.before.before.args in
-    partly-all _ _ _ _ _ _ l.invariant.3 (lines-last a.packed.now a.lengths.now a.n l.from l.i (omega arith))
+    partly_all _ _ _ _ _ _ l.invariant.3 (lines_last a.packed.now a.lengths.now a.n l.from l.i (omega arith))
 
-pub datagrams-spec : {M : Type 1} → statement M
-datagrams-spec =
+pub datagrams_spec : {M : Type 1} → statement M
+datagrams_spec =
     tie.close
     (tie.spec
     invariant-loop
@@ -63,7 +63,7 @@ datagrams-spec =
     (search rules)
     (search rules)
     (search rules)
-    (λ c. put-length _ _ _ _ _ (returns c))
+    (λ c. put_length _ _ _ _ _ (returns c))
     returns
     (search rules)
     (search rules)
@@ -74,5 +74,5 @@ datagrams-spec =
     (search rules)
     (search rules)
     loop-again
-    (λ c. put-length _ _ _ _ _ (returns-2 c))
+    (λ c. put_length _ _ _ _ _ (returns-2 c))
     returns-2)

@@ -2,7 +2,7 @@
 -- Assumes nothing.
 use Prim.Native.Nat.{◌<◌, ◌^◌}
 use borrow.Author.Rules.{rules}
-use Rattle.transmit.proofs.WriteLaws.{controls-room, data-left, last-left, writes-all}
+use Rattle.transmit.proofs.WriteLaws.{controls_room, data_left, last_left, writes_all}
 use Rattle.transmit.proofs.write.Statement.{statement}
 use Rattle.transmit.proofs.write.Tie as tie
 
@@ -13,14 +13,14 @@ put-controls-requires : tie.Need-put-controls-requires
 put-controls-requires c κs =
     let began = c.before.before in
     let w = began.before.before.before.before.before.before.requires in
-    (controls-room _ _ _ _ _ _ _ _ _ _ w _ began.new.ensures (word began.before), w.sendable.mtu, w.pairs)
+    (controls_room _ _ _ _ _ _ _ _ _ _ w _ began.new.ensures (word began.before), w.sendable.mtu, w.pairs)
 
 put-outstanding-requires : tie.Need-put-outstanding-requires
 put-outstanding-requires c κs =
     let put = c.before.before.before.before.before.before.before.before in
     let began = put.before.before.before in
     let w = began.before.before.before.before.before.before.requires in
-    (data-left _ _ _ _ _ _ _ _ _ _ w _ _ _ _ _ began.new.ensures put.put-controls.ensures, w.sendable)
+    (data_left _ _ _ _ _ _ _ _ _ _ w _ _ _ _ _ began.new.ensures put.put-controls.ensures, w.sendable)
 
 finish-requires : tie.Need-finish-requires
 finish-requires c κs =
@@ -28,7 +28,7 @@ finish-requires c κs =
     let put = walked.before.before.before.before.before.before.before.before.before in
     let began = put.before.before.before in
     let w = began.before.before.before.before.before.before.requires in
-    last-left _ _ _ _ _ _ _ _ _ _ w _ _ _ _ _ began.new.ensures put.put-controls.ensures _ _ _ _ _ _
+    last_left _ _ _ _ _ _ _ _ _ _ w _ _ _ _ _ began.new.ensures put.put-controls.ensures _ _ _ _ _ _
     walked.put-outstanding.ensures
 
 returns : tie.Need-returns
@@ -37,7 +37,7 @@ returns c =
     let walked = finished.before.before.before.before.before.before in
     let put = walked.before.before.before.before.before.before.before.before.before in
     let began = put.before.before.before in
-    writes-all _ _ _ _ _ _ _ _ _ _ _ _ _ _ _ _ _ _ _ _ _ _ _ began.new.ensures put.put-controls.ensures
+    writes_all _ _ _ _ _ _ _ _ _ _ _ _ _ _ _ _ _ _ _ _ _ _ _ began.new.ensures put.put-controls.ensures
     walked.put-outstanding.ensures finished.finish.ensures
 
 pub write_spec : {M : Type 1} → statement M

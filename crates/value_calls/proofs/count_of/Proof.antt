@@ -5,8 +5,8 @@ use Rattle.value_calls.proofs.Counts.{waited, wrote, refused}
 use Rattle.value_calls.proofs.count_of.Statement.{statement}
 use Rattle.value_calls.proofs.count_of.Tie as tie
 
-pub count-of-spec : {M : Type 1} → statement M
-count-of-spec =
+pub count_of_spec : {M : Type 1} → statement M
+count_of_spec =
     tie.close
     (tie.spec
     (λ c. search rules)

@@ -3,12 +3,12 @@
 use mathlib.Core.Path.{◌≡◌}
 use lib.ListN.{length, take}
 use borrow.Author.Rules.{rules}
-use Rattle.lists.proofs.Loops.{length-mapped}
-use Rattle.record_words.specs.RecordWords.{recordsIn}
-use Rattle.record_words.specs.RecordLaws.{records-length}
+use Rattle.lists.proofs.Loops.{length_mapped}
+use Rattle.record_words.specs.RecordWords.{records_in}
+use Rattle.record_words.specs.RecordLaws.{records_length}
 use Rattle.promises.specs.Cores.{PutBack}
 use Rattle.promises.specs.Parts.{parts_of}
-use Rattle.from_cores.proofs.TakingIn.{input-left, input-promised}
+use Rattle.from_cores.proofs.TakingIn.{input_left, input_promised}
 use Rattle.from_cores.proofs.Gathered.{Gathers}
 use Rattle.value_calls.proofs.Wholes.{whole_of, lent_length}
 use Rattle.value_calls.proofs.input.Statement.{statement}
@@ -31,29 +31,29 @@ returns c =
     let start = half.before.before.before.before.before.before.before.before in
     let a = start.args in
     let p = parts_of a.send-pool.now a.receive-pool.now (take a.lent a.table) a.acks.now in
-    let whole : length a.table ≡ 128 = search (rules, length-mapped, start.well-formed.1.1.1.0) in
+    let whole : length a.table ≡ 128 = search (rules, length_mapped, start.well-formed.1.1.1.0) in
     let len = lent_length a.table a.lent _ whole counts.lent-count.ensures.0 in
-    let g : Gathers a.link p (recordsIn gathers.gather.result) counts.lent-count.result
+    let g : Gathers a.link p (records_in gathers.gather.result) counts.lent-count.result
     = record { padding = gathers.gather.ensures; len = len } in
     let core = inputs.input.ensures in
-    let b : PutBack = record { words = _; changed = inputs.input.result.changed; records = recordsIn _ } in
-    let few : length b.records ≡ 32 = records-length 32 _ core.1 in
+    let b : PutBack = record { words = _; changed = inputs.input.result.changed; records = records_in _ } in
+    let few : length b.records ≡ 32 = records_length 32 _ core.1 in
     let put = c.scatter.ensures in
     let old = whole_of a.link _ start.well-formed.0 in
-    let left = input-left a.datagram.now a.link p _ b _ _ _ _ _ g
+    let left = input_left a.datagram.now a.link p _ b _ _ _ _ _ g
     (record {
-      whole-queued = old.whole-queued;
-      whole-outstanding = c.before.before.before.before.before.is-words.ensures;
-      whole-transmissions = c.before.before.before.before.is-counts.ensures;
+      whole_queued = old.whole_queued;
+      whole_outstanding = c.before.before.before.before.before.is-words.ensures;
+      whole_transmissions = c.before.before.before.before.is-counts.ensures;
       whole_ready = c.before.before.before.is-list.ensures;
-      whole-waiting = c.before.before.is-list2.ensures;
+      whole_waiting = c.before.before.is-list2.ensures;
       whole_numbers = c.before.is-list3.ensures;
     })
     core.0 in
-    (input-promised a.datagram.now a.link p _ b _ _ _ _ few put.0 left, put.1)
+    (input_promised a.datagram.now a.link p _ b _ _ _ _ few put.0 left, put.1)
 
-pub input-spec : {M : Type 1} → statement M
-input-spec =
+pub input_spec : {M : Type 1} → statement M
+input_spec =
     tie.close
     (tie.spec
     (λ c κs. search rules)

@@ -15,5 +15,5 @@ sound-requires c κs =
 returns : tie.Need-returns
 returns c = c.sound.ensures
 
-pub marks-of-spec : {M : Type 1} → statement M
-marks-of-spec = tie.close (tie.spec (λ c κs. search rules) (λ c κs. search rules) sound-requires returns)
+pub marks_of_spec : {M : Type 1} → statement M
+marks_of_spec = tie.close (tie.spec (λ c κs. search rules) (λ c κs. search rules) sound-requires returns)

@@ -3,11 +3,11 @@
 use mathlib.Core.Path.{◌≡◌, ap, ◌∙◌}
 use lib.ListN.{length, take}
 use borrow.Author.Rules.{rules}
-use Rattle.lists.proofs.Loops.{length-mapped}
-use Rattle.record_words.specs.RecordWords.{recordsIn}
+use Rattle.lists.proofs.Loops.{length_mapped}
+use Rattle.record_words.specs.RecordWords.{records_in}
 use Rattle.promises.specs.Parts.{parts_of}
-use Rattle.from_cores.proofs.Asking.{size-promised}
-use Rattle.from_cores.proofs.Gathered.{Gathers, padded-whole}
+use Rattle.from_cores.proofs.Asking.{size_promised}
+use Rattle.from_cores.proofs.Gathered.{Gathers, padded_whole}
 use Rattle.value_calls.proofs.Wholes.{whole_of, lent_length}
 use Rattle.value_calls.proofs.size.Statement.{statement}
 use Rattle.value_calls.proofs.size.Tie as tie
@@ -24,7 +24,7 @@ size-requires c κs =
       (
         _,
         record {
-          whole = ap length gathers.gather.ensures ∙ padded-whole (take 128 (take a.lent a.table)) a.link.outstanding
+          whole = ap length gathers.gather.ensures ∙ padded_whole (take 128 (take a.lent a.table)) a.link.outstanding
               a.link.flight.outstanding;
           fits = fits.flight-fits.ensures;
         },
@@ -41,16 +41,16 @@ returns c =
     let start = half.before.before.before.before.before.before.before in
     let a = start.args in
     let p = parts_of a.send-pool.now a.receive-pool.now (take a.lent a.table) a.acks.now in
-    let whole : length a.table ≡ 128 = search (rules, length-mapped, start.well-formed.1.1.1.0) in
+    let whole : length a.table ≡ 128 = search (rules, length_mapped, start.well-formed.1.1.1.0) in
     let len = lent_length a.table a.lent _ whole counts.lent-count.ensures.0 in
-    let g : Gathers a.link p (recordsIn gathers.gather.result) counts.lent-count.result
+    let g : Gathers a.link p (records_in gathers.gather.result) counts.lent-count.result
     = record { padding = gathers.gather.ensures; len = len } in
-    size-promised a.link p _ _ g _ (c.size.ensures _
+    size_promised a.link p _ _ g _ (c.size.ensures _
     (record {
-      whole = ap length gathers.gather.ensures ∙ padded-whole (take 128 (take a.lent a.table)) a.link.outstanding
+      whole = ap length gathers.gather.ensures ∙ padded_whole (take 128 (take a.lent a.table)) a.link.outstanding
           a.link.flight.outstanding;
       fits = fits.flight-fits.ensures;
     }))
 
-pub size-spec : {M : Type 1} → statement M
-size-spec = tie.close (tie.spec (λ c κs. search rules) (λ c κs. search rules) (λ c κs. search rules) (λ c κs. search rules) size-requires returns)
+pub size_spec : {M : Type 1} → statement M
+size_spec = tie.close (tie.spec (λ c κs. search rules) (λ c κs. search rules) (λ c κs. search rules) (λ c κs. search rules) size-requires returns)

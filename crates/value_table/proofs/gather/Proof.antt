@@ -3,15 +3,15 @@
 use mathlib.Core.Path.{◌≡◌, refl, sym, ap, ◌∙◌}
 use Prim.Native.Nat.{◌-◌, ◌≤◌, ◌<◌}
 use lib.ListN.{length, take}
-use Rattle.records.specs.Tables.{slotsIn, gathered, padded}
-use Rattle.records.proofs.Turns.{slots-counted, slot-listed, gathers-more, gathers-all}
-use Rattle.record_words.specs.RecordWords.{recordsIn}
-use Rattle.record_words.specs.RecordLaws.{records-none}
-use Rattle.value_table.proofs.Turns.{front-all}
+use Rattle.records.specs.Tables.{slots_in, gathered, padded}
+use Rattle.records.proofs.Turns.{slots_counted, slot_listed, gathers_more, gathers_all}
+use Rattle.record_words.specs.RecordWords.{records_in}
+use Rattle.record_words.specs.RecordLaws.{records_none}
+use Rattle.value_table.proofs.Turns.{front_all}
 use mathlib.Core.List.{List}
 use native.Mathlib.Omega.{arith}
 use Rattle.timing.specs.declared.Record.{Record}
-use Rattle.lists.proofs.Loops.{length-mapped}
+use Rattle.lists.proofs.Loops.{length_mapped}
 use borrow.Author.Rules.{rules}
 use Rattle.value_table.proofs.gather.Statement.{statement}
 use Rattle.value_table.proofs.gather.Tie as tie
@@ -19,10 +19,10 @@ use Rattle.value_table.proofs.gather.Tie as tie
 abbrev invariant-loop : tie.invariant-loop
 invariant-loop table lent n words count most records₀ i₀ records i =
     (i ≤ count)
-    × (count ≡ length (slotsIn words n))
+    × (count ≡ length (slots_in words n))
     × (count ≤ 32)
     × (length records ≡ 128)
-    × (recordsIn records ≡ padded (gathered (take most table) (take i (slotsIn words n))))
+    × (records_in records ≡ padded (gathered (take most table) (take i (slots_in words n))))
 
 abbrev decreases-loop : tie.decreases-loop
 decreases-loop table lent n words count most records₀ i₀ records i = count - i
@@ -40,10 +40,10 @@ loop-holds : tie.Need-loop-init invariant-loop decreases-loop
 loop-holds c =
     let a = c.before.before.before.args in (
       search rules,
-      slots-counted a.t3 a.n _ (search rules) c.before.before.within.ensures.0,
+      slots_counted a.t3 a.n _ (search rules) c.before.before.within.ensures.0,
       c.before.before.within.ensures.1,
       rw c.none.ensures refl,
-      ap recordsIn c.none.ensures ∙ records-none,
+      ap records_in c.none.ensures ∙ records_none,
     )
 
 mul-slot-of : tie.Need-overflow-mul-slot-of invariant-loop decreases-loop
@@ -75,13 +75,13 @@ loop-again c =
     let counts = turn.before.before.before in
     let a = counts.before.before.args in
     let i = turn.before.loop.i in
-    let h : i < length (slotsIn a.t3 a.n) = omega (arith, v.1, turn.loop-test.true) in (
+    let h : i < length (slots_in a.t3 a.n) = omega (arith, v.1, turn.loop-test.true) in (
       search rules,
       v.1,
       v.2,
       c.put.ensures.0,
-      c.put.ensures.1 ∙ gathers-more (take counts.lent-count.result a.table) _ (slotsIn a.t3 a.n) i _ _ h
-          (omega (arith, v.2, turn.loop-test.true)) v.4 (slot-listed a.t3 a.n i _ reads.before.slot_of.ensures h)
+      c.put.ensures.1 ∙ gathers_more (take counts.lent-count.result a.table) _ (slots_in a.t3 a.n) i _ _ h
+          (omega (arith, v.2, turn.loop-test.true)) v.4 (slot_listed a.t3 a.n i _ reads.before.slot_of.ensures h)
           reads.read.ensures,
     )
 
@@ -89,14 +89,14 @@ returns : tie.Need-returns invariant-loop decreases-loop
 returns c =
     let v = c.before.loop.invariant in
     let a = c.before.before.before.before.before.args in
-    let s = slotsIn a.t3 a.n in
+    let s = slots_in a.t3 a.n in
     let counts = c.before.before.before.lent-count in
-    let e = front-all a.table a.lent counts.result (search (rules, length-mapped)) counts.ensures.0 in
-    gathers-all (take counts.result a.table) _ s c.before.loop.i (omega (arith, v.1, c.loop-test.false)) v.4
+    let e = front_all a.table a.lent counts.result (search (rules, length_mapped)) counts.ensures.0 in
+    gathers_all (take counts.result a.table) _ s c.before.loop.i (omega (arith, v.1, c.loop-test.false)) v.4
     ∙ ap (λ (t : List Record). padded (gathered t s)) (sym e)
 
-pub gather-spec : {M : Type 1} → statement M
-gather-spec =
+pub gather_spec : {M : Type 1} → statement M
+gather_spec =
     tie.close
     (tie.spec
     invariant-loop

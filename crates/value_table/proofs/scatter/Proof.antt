@@ -3,15 +3,15 @@
 use mathlib.Core.Path.{◌≡◌, refl, sym, ap, ◌∙◌}
 use Prim.Native.Nat.{◌-◌, ◌≤◌, ◌<◌}
 use lib.ListN.{length, take, drop, set}
-use Rattle.records.specs.Tables.{slotsIn, scattered}
-use Rattle.records.proofs.Turns.{slots-counted, slot-listed, Left, scatters-more, scatters-all}
-use Rattle.record_words.specs.RecordWords.{recordsIn}
-use Rattle.record_words.specs.RecordLaws.{records-length}
-use Rattle.value_table.proofs.Turns.{lent-front, lent-rest}
+use Rattle.records.specs.Tables.{slots_in, scattered}
+use Rattle.records.proofs.Turns.{slots_counted, slot_listed, Left, scatters_more, scatters_all}
+use Rattle.record_words.specs.RecordWords.{records_in}
+use Rattle.record_words.specs.RecordLaws.{records_length}
+use Rattle.value_table.proofs.Turns.{lent_front, lent_rest}
 use mathlib.Core.List.{List}
 use native.Mathlib.Omega.{arith}
 use Rattle.timing.specs.declared.Record.{Record}
-use Rattle.lists.proofs.Loops.{length-mapped}
+use Rattle.lists.proofs.Loops.{length_mapped}
 use borrow.Author.Rules.{rules}
 use Rattle.value_table.proofs.scatter.Statement.{statement}
 use Rattle.value_table.proofs.scatter.Tie as tie
@@ -19,11 +19,11 @@ use Rattle.value_table.proofs.scatter.Tie as tie
 abbrev invariant-loop : tie.invariant-loop
 invariant-loop lent n words records count most next₀ i₀ next i =
     (i ≤ count)
-    × (count ≡ length (slotsIn words n))
+    × (count ≡ length (slots_in words n))
     × (count ≤ 32)
     × (length next ≡ 128)
     × (length records ≡ 128)
-    × Left (take most next) (slotsIn words n) (recordsIn records) i (scattered (take most next₀) (slotsIn words n) (recordsIn records))
+    × Left (take most next) (slots_in words n) (records_in records) i (scattered (take most next₀) (slots_in words n) (records_in records))
     × (drop most next ≡ drop most next₀)
 
 abbrev decreases-loop : tie.decreases-loop
@@ -39,9 +39,9 @@ loop-holds : tie.Need-loop-init invariant-loop decreases-loop
 loop-holds c =
     let a = c.before.before.args in (
       search rules,
-      slots-counted a.t3 a.n _ (search rules) c.before.within.ensures.0,
+      slots_counted a.t3 a.n _ (search rules) c.before.within.ensures.0,
       c.before.within.ensures.1,
-      search (rules, length-mapped),
+      search (rules, length_mapped),
       search rules,
       refl,
       refl,
@@ -76,15 +76,15 @@ loop-again c =
     let a = counts.before.before.args in
     let i = turn.before.loop.i in
     let slot = c.before.before.before.slot_of in
-    let h : i < length (slotsIn a.t3 a.n) = omega (arith, v.1, turn.loop-test.true) in
-    let g : i < length (recordsIn a.t5) = omega (arith, records-length 32 a.t5 v.4, v.2, turn.loop-test.true) in (
+    let h : i < length (slots_in a.t3 a.n) = omega (arith, v.1, turn.loop-test.true) in
+    let g : i < length (records_in a.t5) = omega (arith, records_length 32 a.t5 v.4, v.2, turn.loop-test.true) in (
       search rules,
       v.1,
       v.2,
-      search (rules, length-mapped),
+      search (rules, length_mapped),
       v.4,
-      scatters-more _ _ _ (slotsIn a.t3 a.n) i _ h g v.5
-          (slot-listed a.t3 a.n i _ slot.ensures h)
+      scatters_more _ _ _ (slots_in a.t3 a.n) i _ h g v.5
+          (slot_listed a.t3 a.n i _ slot.ensures h)
           (c.replace.ensures.0 ∙ ap (set (take counts.lent-count.result turn.before.loop.next) slot.result)
           c.before.at.ensures),
       c.replace.ensures.1 ∙ v.6,
@@ -94,18 +94,18 @@ returns : tie.Need-returns invariant-loop decreases-loop
 returns c =
     let v = c.before.loop.invariant in
     let a = c.before.before.before.before.args in
-    let s = slotsIn a.t3 a.n in
+    let s = slots_in a.t3 a.n in
     let m = c.before.before.lent-count.result in
     let e = c.before.before.lent-count.ensures.0 in
-    let whole : length a.table ≡ 128 = search (rules, length-mapped) in (
-      sym (lent-front c.before.loop.next a.lent m v.3 e) ∙ scatters-all _ _ s c.before.loop.i
+    let whole : length a.table ≡ 128 = search (rules, length_mapped) in (
+      sym (lent_front c.before.loop.next a.lent m v.3 e) ∙ scatters_all _ _ s c.before.loop.i
           (omega (arith, v.1, c.loop-test.false)) v.5
-          ∙ ap (λ (t : List Record). scattered t s (recordsIn a.t5)) (lent-front a.table a.lent m whole e),
-      sym (lent-rest c.before.loop.next a.lent m v.3 e) ∙ v.6 ∙ lent-rest a.table a.lent m whole e,
+          ∙ ap (λ (t : List Record). scattered t s (records_in a.t5)) (lent_front a.table a.lent m whole e),
+      sym (lent_rest c.before.loop.next a.lent m v.3 e) ∙ v.6 ∙ lent_rest a.table a.lent m whole e,
     )
 
-pub scatter-spec : {M : Type 1} → statement M
-scatter-spec =
+pub scatter_spec : {M : Type 1} → statement M
+scatter_spec =
     tie.close
     (tie.spec
     invariant-loop

@@ -1,7 +1,7 @@
 -- `insert` finds the place in the numbers, and puts the word and the number there.
 -- Assumes nothing.
 use borrow.Author.Rules.{rules}
-use Rattle.words.proofs.Pairs.{searched, insert-held, insert-fits, insert-new}
+use Rattle.words.proofs.Pairs.{searched, insert_held, insert_fits, insert_new}
 use Rattle.words.proofs.insert.Statement.{statement}
 use Rattle.words.proofs.insert.Tie as tie
 
@@ -12,7 +12,7 @@ returns c =
     let i = c.before.before.before.place.result in
     let t = searched a.base a.number a.n i _ a.numbers.now _ _ c.before.before.before.before.before.difference.ensures
     c.before.before.before.place.ensures c.before.is_at.ensures c.if1.true in
-    insert-held a.words.now a.numbers.now a.n i a.base a.word a.number start.requires.0 start.requires.1 start.requires.2
+    insert_held a.words.now a.numbers.now a.n i a.base a.word a.number start.requires.0 start.requires.1 start.requires.2
     t.0 t.1
 
 insert-at-requires : tie.Need-insert-at-requires
@@ -24,7 +24,7 @@ insert-at-requires c κs =
     c.before.before.before.before.before.before.difference.ensures c.before.before.before.before.place.ensures
     c.before.before.is_at.ensures c.before.if1.false in (
       start.requires.0,
-      insert-fits a.words.now a.numbers.now a.n i a.base a.word a.number start.requires.0 start.requires.1
+      insert_fits a.words.now a.numbers.now a.n i a.base a.word a.number start.requires.0 start.requires.1
           start.requires.2 t.0 t.1 start.requires.3,
       t.0.within,
     )
@@ -37,11 +37,11 @@ returns-2 c =
     let i = found.before.before.place.result in
     let t = searched a.base a.number a.n i _ a.numbers.now _ _ found.before.before.before.before.difference.ensures
     found.before.before.place.ensures found.is_at.ensures c.before.before.before.before.if1.false in
-    insert-new a.words.now a.numbers.now a.n i a.base a.word a.number start.requires.0 start.requires.1 start.requires.2
+    insert_new a.words.now a.numbers.now a.n i a.base a.word a.number start.requires.0 start.requires.1 start.requires.2
     t.0 _ _ t.1 c.before.before.insert-at.ensures c.insert-at2.ensures
 
-pub insert-spec : {M : Type 1} → statement M
-insert-spec =
+pub insert_spec : {M : Type 1} → statement M
+insert_spec =
     tie.close
     (tie.spec
     (λ c κs. search rules)

@@ -5,15 +5,15 @@ use native.Mathlib.Omega.{arith}
 use borrow.Author.Rules.{rules}
 use lib.ListN.{get_or}
 use Rattle.protocol.specs.Serial.{minus}
-use Rattle.words.proofs.Pairs.{more-below}
+use Rattle.words.proofs.Pairs.{more_below}
 use Rattle.words.proofs.place.Statement.{statement}
 use Rattle.words.proofs.place.Tie as tie
 
 abbrev invariant-loop : tie.invariant-loop
 invariant-loop numbers n base offset i₀ i = (i ≤ n) × ((j : ℕ) → j < i → minus (get_or numbers j 0) base < offset)
 
-pub place-spec : {M : Type 1} → statement M
-place-spec =
+pub place_spec : {M : Type 1} → statement M
+place_spec =
     tie.close
     (tie.spec
     invariant-loop
@@ -31,7 +31,7 @@ place-spec =
     (λ c. search rules)
     (λ c. (
       search rules,
-      more-below _ _ c.before.before.before.before.before.args.numbers.now
+      more_below _ _ c.before.before.before.before.before.args.numbers.now
           c.before.before.before.before.loop.i (omega (arith, c.if1.false, c.before.difference.ensures))
           c.before.before.before.before.loop.invariant.1,
     ))

@@ -143,32 +143,32 @@ use Rattle.records.proofs.Walk.{
   fat,
   exec,
 }
-use Rattle.records.proofs.Call.{calls-fn, plainly}
+use Rattle.records.proofs.Call.{calls_fn, plainly}
 use Rattle.records.proofs.Shared.{LentShared, lends_shared, shared_back}
 use Rattle.records.proofs.Rows.{R}
-use Rattle.lending.proofs.Fields.{ref-at, lend-mut, back-mut, lend-shr, back_shr, cell_out, cell_in, tells-length, lend-whole, back_whole}
-use Rattle.lending.proofs.Locals.{envAt, allocates, frees_all, holds, empty}
+use Rattle.lending.proofs.Fields.{ref_at, lend_mut, back_mut, lend_shr, back_shr, cell_out, cell_in, tells_length, lend_whole, back_whole}
+use Rattle.lending.proofs.Locals.{env_at, allocates, frees_all, holds, empty}
 use Rattle.lending.proofs.Parts.{behind, spread, same}
 use Rattle.lending.proofs.Block.{
   L,
   Open,
   Back,
-  link-own,
-  link-shr,
-  opens-link,
-  closes-link,
-  looks-link,
-  shuts-link,
-  place-settings,
-  place-flight,
-  place-arrival,
-  place-clock,
-  place-queued,
-  place-outstanding,
-  place-transmissions,
-  place-ready,
-  place-waiting,
-  place-waiting-numbers,
+  link_own,
+  link_shr,
+  opens_link,
+  closes_link,
+  looks_link,
+  shuts_link,
+  place_settings,
+  place_flight,
+  place_arrival,
+  place_clock,
+  place_queued,
+  place_outstanding,
+  place_transmissions,
+  place_ready,
+  place_waiting,
+  place_waiting_numbers,
 }
 use Rattle.control.specs.declared.Link.{Link}
 use Rattle.timing.specs.declared.Record.{Record}
@@ -213,18 +213,18 @@ use mathlib.Core.Bool.{Bool}
 use denote.Plain.{Boolean, bool_vals, bool_Tells, bool_Lawful, bool_Makes}
 use mir.Val.{vbool}
 use lib.ListN.{take, replicate}
-use Rattle.protocol.specs.Protocol.{sendSlots}
-use Rattle.records.specs.Tables.{slotsIn, gathered, padded, scattered}
-use Rattle.record_words.specs.RecordWords.{recordsIn}
-use Rattle.record_words.specs.RecordLaws.{records-length}
+use Rattle.protocol.specs.Protocol.{send_slots}
+use Rattle.records.specs.Tables.{slots_in, gathered, padded, scattered}
+use Rattle.record_words.specs.RecordWords.{records_in}
+use Rattle.record_words.specs.RecordLaws.{records_length}
 use Rattle.control.specs.Views.{Whole, arrays, link_of}
-use Rattle.marks.specs.Marks.{none, noneToSend}
+use Rattle.marks.specs.Marks.{none, none_to_send}
 use Rattle.checking.specs.Verdicts.{Sound, Sounds}
-use Rattle.promises.specs.Parts.{parts_of, flushPartsOf}
+use Rattle.promises.specs.Parts.{parts_of, flush_parts_of}
 use Rattle.flush_core.specs.Flushes.{Core}
 use Rattle.write_out.specs.Written.{WrittenOut}
 use Rattle.write_out.proofs.Paced.{left, gives}
-use Rattle.codes.specs.Codes.{updateCode}
+use Rattle.codes.specs.Codes.{update_code}
 use Rattle.from_cores.proofs.Gathered.{gathers}
 use Rattle.from_cores.proofs.Scattered.{put_back}
 use Rattle.marks.specs.contracts.none_to_send as send-marks-of
@@ -322,7 +322,7 @@ module _ {M : Type 1} {𝓤 : Ura M} (𝓛 : Logic 𝓤) (at_mem : Memory → SP
       (room₇ : Room u8 (length x₇.now)) (x₈ : MutBor (List ℕ)) (room₈ : Room u16 (length x₈.now)) where
     abbrev x : MutBor Link × (MutBor (List ℕ) × (MutBor (List ℕ) ×
         (MutBor (List Record) × (MutBor (List ℕ) × (Bool × (ℕ × (MutBor (List ℕ) × (MutBor (List ℕ) × Unit {0}))))))))
-    x = (ref-at b o γ h, (x₁, (x₂, (x₃, (x₄, (x₅, (x₆, (x₇, (x₈, tt)))))))))
+    x = (ref_at b o γ h, (x₁, (x₂, (x₃, (x₄, (x₅, (x₆, (x₇, (x₈, tt)))))))))
 
     abbrev s₁ : Val
     s₁ = slice_val x₁.ref_ptr (length x₁.now)
@@ -342,11 +342,11 @@ module _ {M : Type 1} {𝓤 : Ura M} (𝓛 : Logic 𝓤) (at_mem : Memory → SP
     abbrev Own₃ : Fml
     Own₃ = (MutSlice (named 0) κ₃ R).own_val x₃ (s₃ ∷ [])
 
-    abbrev shown-at₃ : GName → MutBor (List Record)
-    shown-at₃ δ = record { ref_ptr = x₃.ref_ptr; ghost_name = δ; now = x₃.now }
+    abbrev shown_at₃ : GName → MutBor (List Record)
+    shown_at₃ δ = record { ref_ptr = x₃.ref_ptr; ghost_name = δ; now = x₃.now }
 
     abbrev Shared₃ : ℕ → GName → Fml
-    Shared₃ β δ = (ShrSlice (named 0) (β ∷ []) R).own_val (shown-at₃ δ) (s₃ ∷ [])
+    Shared₃ β δ = (ShrSlice (named 0) (β ∷ []) R).own_val (shown_at₃ δ) (s₃ ∷ [])
 
     abbrev s₄ : Val
     s₄ = slice_val x₄.ref_ptr (length x₄.now)
@@ -374,104 +374,104 @@ module _ {M : Type 1} {𝓤 : Ura M} (𝓛 : Logic 𝓤) (at_mem : Memory → SP
         (((κ₀, (κ₁, (κ₂, (κ₃, (κ₄, (κ₅, (κ₆, tt))))))), (q₀, (q₁, (q₂, (q₃, (q₄, (q₅, (q₆, tt))))))), tt, x, at), tt)
 
     -- what check is called at, and that what it asks is had
-    abbrev to-check : (α-block : ℕ) (δ-block : GName) (f-block : Link) (p-sends : ℕ) (α-sends : ℕ) (δ-sends : GName) (f-sends : (List ℕ))
-        (p-receives : ℕ) (α-receives : ℕ) (δ-receives : GName) (f-receives : (List ℕ))
+    abbrev to_check : (α_block : ℕ) (δ_block : GName) (f_block : Link) (p_sends : ℕ) (α_sends : ℕ) (δ_sends : GName) (f_sends : (List ℕ))
+        (p_receives : ℕ) (α_receives : ℕ) (δ_receives : GName) (f_receives : (List ℕ))
         → (triple_of 𝓛 check.signature (check.spec 𝓛 at_mem run)).Ghost
-    to-check α-block δ-block f-block p-sends α-sends δ-sends f-sends p-receives α-receives δ-receives f-receives = (
+    to_check α_block δ_block f_block p_sends α_sends δ_sends f_sends p_receives α_receives δ_receives f_receives = (
       (
-        ((α-block ∷ []), ((α-sends ∷ []), ((α-receives ∷ []), tt))),
+        ((α_block ∷ []), ((α_sends ∷ []), ((α_receives ∷ []), tt))),
         (full_share, (full_share, (full_share, tt))),
         tt,
-        ((ref-at b o δ-block f-block), ((ref-at p-sends 0 δ-sends f-sends), ((ref-at p-receives 0 δ-receives f-receives), tt))),
-        ((vptr b o) ∷ [], ((vptr p-sends 0) ∷ [], ((vptr p-receives 0) ∷ [], tt))),
+        ((ref_at b o δ_block f_block), ((ref_at p_sends 0 δ_sends f_sends), ((ref_at p_receives 0 δ_receives f_receives), tt))),
+        ((vptr b o) ∷ [], ((vptr p_sends 0) ∷ [], ((vptr p_receives 0) ∷ [], tt))),
       ),
       tt,
     )
 
-    asks-check : (α-block : ℕ) (δ-block : GName) (f-block : Link) (p-sends : ℕ) (α-sends : ℕ) (δ-sends : GName) (f-sends : (List ℕ))
-        (p-receives : ℕ) (α-receives : ℕ) (δ-receives : GName) (f-receives : (List ℕ)) → ((f-sends ≡ noneToSend) × (f-receives ≡ none))
-        → ent 𝓤 (⋆ 𝓛 (‵ (flft (α-block ∷ []) full_share)
-        ∷ ‵ ((ShrRef (named 0) (α-block ∷ []) L).own_val (ref-at b o δ-block f-block) ((vptr b o) ∷ [])) ∷ ‵ (flft (α-sends ∷ []) full_share)
-        ∷ ‵ ((MutRef (named 0) (α-sends ∷ []) (Array u8 128)).own_val (ref-at p-sends 0 δ-sends f-sends) ((vptr p-sends 0) ∷ []))
-        ∷ ‵ (flft (α-receives ∷ []) full_share)
-        ∷ ‵ ((MutRef (named 0) (α-receives ∷ []) (Array u8 256)).own_val (ref-at p-receives 0 δ-receives f-receives) ((vptr p-receives 0) ∷ []))
+    asks_check : (α_block : ℕ) (δ_block : GName) (f_block : Link) (p_sends : ℕ) (α_sends : ℕ) (δ_sends : GName) (f_sends : (List ℕ))
+        (p_receives : ℕ) (α_receives : ℕ) (δ_receives : GName) (f_receives : (List ℕ)) → ((f_sends ≡ none_to_send) × (f_receives ≡ none))
+        → ent 𝓤 (⋆ 𝓛 (‵ (flft (α_block ∷ []) full_share)
+        ∷ ‵ ((ShrRef (named 0) (α_block ∷ []) L).own_val (ref_at b o δ_block f_block) ((vptr b o) ∷ [])) ∷ ‵ (flft (α_sends ∷ []) full_share)
+        ∷ ‵ ((MutRef (named 0) (α_sends ∷ []) (Array u8 128)).own_val (ref_at p_sends 0 δ_sends f_sends) ((vptr p_sends 0) ∷ []))
+        ∷ ‵ (flft (α_receives ∷ []) full_share)
+        ∷ ‵ ((MutRef (named 0) (α_receives ∷ []) (Array u8 256)).own_val (ref_at p_receives 0 δ_receives f_receives) ((vptr p_receives 0) ∷ []))
         ∷ [])) ((triple_of 𝓛 check.signature (check.spec 𝓛 at_mem run)).pre
-        (to-check α-block δ-block f-block p-sends α-sends δ-sends f-sends p-receives α-receives δ-receives f-receives))
-    asks-check α-block δ-block f-block p-sends α-sends δ-sends f-sends p-receives α-receives δ-receives f-receives req =
-        qed 𝓛 (‵ (flft (α-block ∷ []) full_share) ∷ ‵ ((ShrRef (named 0) (α-block ∷ []) L).own_val (ref-at b o δ-block f-block) ((vptr b o) ∷ []))
-        ∷ ‵ (flft (α-sends ∷ []) full_share)
-        ∷ ‵ ((MutRef (named 0) (α-sends ∷ []) (Array u8 128)).own_val (ref-at p-sends 0 δ-sends f-sends) ((vptr p-sends 0) ∷ []))
-        ∷ ‵ (flft (α-receives ∷ []) full_share)
-        ∷ ‵ ((MutRef (named 0) (α-receives ∷ []) (Array u8 256)).own_val (ref-at p-receives 0 δ-receives f-receives)
-        ((vptr p-receives 0) ∷ [])) ∷ []) ∵ says ! req $ nothing ! $ move ! (5 ∷ 0 ∷ []) $ join ! $ move ! (3 ∷ 0 ∷ []) $ join ! $
+        (to_check α_block δ_block f_block p_sends α_sends δ_sends f_sends p_receives α_receives δ_receives f_receives))
+    asks_check α_block δ_block f_block p_sends α_sends δ_sends f_sends p_receives α_receives δ_receives f_receives req =
+        qed 𝓛 (‵ (flft (α_block ∷ []) full_share) ∷ ‵ ((ShrRef (named 0) (α_block ∷ []) L).own_val (ref_at b o δ_block f_block) ((vptr b o) ∷ []))
+        ∷ ‵ (flft (α_sends ∷ []) full_share)
+        ∷ ‵ ((MutRef (named 0) (α_sends ∷ []) (Array u8 128)).own_val (ref_at p_sends 0 δ_sends f_sends) ((vptr p_sends 0) ∷ []))
+        ∷ ‵ (flft (α_receives ∷ []) full_share)
+        ∷ ‵ ((MutRef (named 0) (α_receives ∷ []) (Array u8 256)).own_val (ref_at p_receives 0 δ_receives f_receives)
+        ((vptr p_receives 0) ∷ [])) ∷ []) ∵ says ! req $ nothing ! $ move ! (5 ∷ 0 ∷ []) $ join ! $ move ! (3 ∷ 0 ∷ []) $ join ! $
         move ! (1 ∷ 0 ∷ []) $ join ! $ nothing ! $ move ! (4 ∷ 0 ∷ []) $ fjoin ! $ move ! (3 ∷ 0 ∷ []) $ fjoin ! $ move ! (2 ∷ 0 ∷ []) $
         fjoin ! $ move ! (1 ∷ 0 ∷ []) $ done !
 
     -- what gather is called at, and that what it asks is had
-    abbrev to-gather : (β₃ : ℕ) (δ₃ : GName) (α-outstanding : ℕ) (δ-outstanding : GName) (f-outstanding : (List ℕ)) (p-found : ℕ)
-        (α-found : ℕ) (δ-found : GName) (f-found : (List ℕ)) (y₀ : ℕ) (u₀ : Val)
+    abbrev to_gather : (β₃ : ℕ) (δ₃ : GName) (α_outstanding : ℕ) (δ_outstanding : GName) (f_outstanding : (List ℕ)) (p_found : ℕ)
+        (α_found : ℕ) (δ_found : GName) (f_found : (List ℕ)) (y₀ : ℕ) (u₀ : Val)
         → (triple_of 𝓛 gather.signature (gather.spec 𝓛 at_mem run)).Ghost
-    to-gather β₃ δ₃ α-outstanding δ-outstanding f-outstanding p-found α-found δ-found f-found y₀ u₀ = (
+    to_gather β₃ δ₃ α_outstanding δ_outstanding f_outstanding p_found α_found δ_found f_found y₀ u₀ = (
       (
-        ((β₃ ∷ []), ((α-outstanding ∷ []), ((α-found ∷ []), tt))),
+        ((β₃ ∷ []), ((α_outstanding ∷ []), ((α_found ∷ []), tt))),
         (full_share, (full_share, (full_share, tt))),
         tt,
-        ((shown-at₃ δ₃), ((ref-at b (o + 636) δ-outstanding f-outstanding), (y₀, ((ref-at p-found 0 δ-found f-found), tt)))),
-        (s₃ ∷ [], ((vptr b (o + 636)) ∷ [], (u₀ ∷ [], ((vptr p-found 0) ∷ [], tt)))),
+        ((shown_at₃ δ₃), ((ref_at b (o + 636) δ_outstanding f_outstanding), (y₀, ((ref_at p_found 0 δ_found f_found), tt)))),
+        (s₃ ∷ [], ((vptr b (o + 636)) ∷ [], (u₀ ∷ [], ((vptr p_found 0) ∷ [], tt)))),
       ),
       tt,
     )
 
-    asks-gather : (β₃ : ℕ) (δ₃ : GName) (α-outstanding : ℕ) (δ-outstanding : GName) (f-outstanding : (List ℕ)) (p-found : ℕ) (α-found : ℕ)
-        (δ-found : GName) (f-found : (List ℕ)) → (y₀ : ℕ) (u₀ : Val) → Is usize y₀ (u₀ ∷ [])
-        → ((length f-outstanding ≡ 32) × (f-found ≡ replicate 128 0))
-        → ent 𝓤 (⋆ 𝓛 (‵ (flft (β₃ ∷ []) full_share) ∷ ‵ (Shared₃ β₃ δ₃) ∷ ‵ (flft (α-outstanding ∷ []) full_share)
-        ∷ ‵ ((ShrRef (named 0) (α-outstanding ∷ []) (Array u32 32)).own_val (ref-at b (o + 636) δ-outstanding f-outstanding)
-        ((vptr b (o + 636)) ∷ [])) ∷ ‵ (flft (α-found ∷ []) full_share)
-        ∷ ‵ ((MutRef (named 0) (α-found ∷ []) (Array u32 128)).own_val (ref-at p-found 0 δ-found f-found) ((vptr p-found 0) ∷ [])) ∷ []))
+    asks_gather : (β₃ : ℕ) (δ₃ : GName) (α_outstanding : ℕ) (δ_outstanding : GName) (f_outstanding : (List ℕ)) (p_found : ℕ) (α_found : ℕ)
+        (δ_found : GName) (f_found : (List ℕ)) → (y₀ : ℕ) (u₀ : Val) → Is usize y₀ (u₀ ∷ [])
+        → ((length f_outstanding ≡ 32) × (f_found ≡ replicate 128 0))
+        → ent 𝓤 (⋆ 𝓛 (‵ (flft (β₃ ∷ []) full_share) ∷ ‵ (Shared₃ β₃ δ₃) ∷ ‵ (flft (α_outstanding ∷ []) full_share)
+        ∷ ‵ ((ShrRef (named 0) (α_outstanding ∷ []) (Array u32 32)).own_val (ref_at b (o + 636) δ_outstanding f_outstanding)
+        ((vptr b (o + 636)) ∷ [])) ∷ ‵ (flft (α_found ∷ []) full_share)
+        ∷ ‵ ((MutRef (named 0) (α_found ∷ []) (Array u32 128)).own_val (ref_at p_found 0 δ_found f_found) ((vptr p_found 0) ∷ [])) ∷ []))
         ((triple_of 𝓛 gather.signature (gather.spec 𝓛 at_mem run)).pre
-        (to-gather β₃ δ₃ α-outstanding δ-outstanding f-outstanding p-found α-found δ-found f-found y₀ u₀))
-    asks-gather β₃ δ₃ α-outstanding δ-outstanding f-outstanding p-found α-found δ-found f-found y₀ u₀ is₀ req =
-        qed 𝓛 (‵ (flft (β₃ ∷ []) full_share) ∷ ‵ (Shared₃ β₃ δ₃) ∷ ‵ (flft (α-outstanding ∷ []) full_share)
-        ∷ ‵ ((ShrRef (named 0) (α-outstanding ∷ []) (Array u32 32)).own_val (ref-at b (o + 636) δ-outstanding f-outstanding)
-        ((vptr b (o + 636)) ∷ [])) ∷ ‵ (flft (α-found ∷ []) full_share)
-        ∷ ‵ ((MutRef (named 0) (α-found ∷ []) (Array u32 128)).own_val (ref-at p-found 0 δ-found f-found) ((vptr p-found 0) ∷ [])) ∷ []) ∵
+        (to_gather β₃ δ₃ α_outstanding δ_outstanding f_outstanding p_found α_found δ_found f_found y₀ u₀))
+    asks_gather β₃ δ₃ α_outstanding δ_outstanding f_outstanding p_found α_found δ_found f_found y₀ u₀ is₀ req =
+        qed 𝓛 (‵ (flft (β₃ ∷ []) full_share) ∷ ‵ (Shared₃ β₃ δ₃) ∷ ‵ (flft (α_outstanding ∷ []) full_share)
+        ∷ ‵ ((ShrRef (named 0) (α_outstanding ∷ []) (Array u32 32)).own_val (ref_at b (o + 636) δ_outstanding f_outstanding)
+        ((vptr b (o + 636)) ∷ [])) ∷ ‵ (flft (α_found ∷ []) full_share)
+        ∷ ‵ ((MutRef (named 0) (α_found ∷ []) (Array u32 128)).own_val (ref_at p_found 0 δ_found f_found) ((vptr p_found 0) ∷ [])) ∷ []) ∵
         says ! req $ nothing ! $ move ! (5 ∷ 0 ∷ []) $ join ! $ move ! (3 ∷ 0 ∷ []) $ join ! $ move ! (1 ∷ 0 ∷ []) $ join ! $
         nothing ! $ move ! (4 ∷ 0 ∷ []) $ fjoin ! $ owned ! usize (Is usize) (uint_Makes 𝓛 w64) y₀ _ is₀ $ fjoin ! $
         move ! (3 ∷ 0 ∷ []) $ fjoin ! $ move ! (2 ∷ 0 ∷ []) $ fjoin ! $ move ! (1 ∷ 0 ∷ []) $ done !
 
     -- what table-len is called at, and that what it asks is had
-    abbrev to-table-len : (β₃ : ℕ) (δ₃ : GName) → (triple_of 𝓛 table-len.signature (table-len.spec 𝓛 at_mem run)).Ghost
-    to-table-len β₃ δ₃ = ((((β₃ ∷ []), tt), (full_share, tt), tt, ((shown-at₃ δ₃), tt), (s₃ ∷ [], tt)), tt)
+    abbrev to_table_len : (β₃ : ℕ) (δ₃ : GName) → (triple_of 𝓛 table-len.signature (table-len.spec 𝓛 at_mem run)).Ghost
+    to_table_len β₃ δ₃ = ((((β₃ ∷ []), tt), (full_share, tt), tt, ((shown_at₃ δ₃), tt), (s₃ ∷ [], tt)), tt)
 
-    asks-table-len : (β₃ : ℕ) (δ₃ : GName)
+    asks_table_len : (β₃ : ℕ) (δ₃ : GName)
         → ent 𝓤 (⋆ 𝓛 (‵ (flft (β₃ ∷ []) full_share) ∷ ‵ (Shared₃ β₃ δ₃) ∷ []))
-        ((triple_of 𝓛 table-len.signature (table-len.spec 𝓛 at_mem run)).pre (to-table-len β₃ δ₃))
-    asks-table-len β₃ δ₃ =
+        ((triple_of 𝓛 table-len.signature (table-len.spec 𝓛 at_mem run)).pre (to_table_len β₃ δ₃))
+    asks_table_len β₃ δ₃ =
         qed 𝓛 (‵ (flft (β₃ ∷ []) full_share) ∷ ‵ (Shared₃ β₃ δ₃) ∷ []) ∵ nothing ! $ move ! (1 ∷ 0 ∷ []) $ join ! $ nothing ! $
         move ! (2 ∷ 0 ∷ []) $ fjoin ! $ move ! (1 ∷ 0 ∷ []) $ join ! $ nothing ! $ move ! (1 ∷ 0 ∷ []) $ done !
 
     -- what core is called at, and that what it asks is had
-    abbrev to-core : (p-found : ℕ) (α-found : ℕ) (δ-found : GName) (f-found : (List ℕ)) (α-queued : ℕ) (δ-queued : GName)
-        (f-queued : (List ℕ)) (α-outstanding : ℕ) (δ-outstanding : GName) (f-outstanding : (List ℕ)) (α-transmissions : ℕ)
-        (δ-transmissions : GName) (f-transmissions : (List ℕ)) (α-ready : ℕ) (δ-ready : GName) (f-ready : (List ℕ)) (α-waiting : ℕ)
-        (δ-waiting : GName) (f-waiting : (List ℕ)) (α-waiting-numbers : ℕ) (δ-waiting-numbers : GName) (f-waiting-numbers : (List ℕ))
+    abbrev to_core : (p_found : ℕ) (α_found : ℕ) (δ_found : GName) (f_found : (List ℕ)) (α_queued : ℕ) (δ_queued : GName)
+        (f_queued : (List ℕ)) (α_outstanding : ℕ) (δ_outstanding : GName) (f_outstanding : (List ℕ)) (α_transmissions : ℕ)
+        (δ_transmissions : GName) (f_transmissions : (List ℕ)) (α_ready : ℕ) (δ_ready : GName) (f_ready : (List ℕ)) (α_waiting : ℕ)
+        (δ_waiting : GName) (f_waiting : (List ℕ)) (α_waiting_numbers : ℕ) (δ_waiting_numbers : GName) (f_waiting_numbers : (List ℕ))
         (y₀ : Settings) (u₀ : Val) (y₁ : Flight) (u₁ : Val) (y₂ : Arrival) (u₂ : Val) (y₃ : Clock) (u₃ : Val) (y₄ : Bool) (u₄ : Val)
         (y₅ : ℕ) (u₅ : Val) (y₆ : Bool) (u₆ : Val) (y₇ : ℕ) (u₇ : Val)
         → (triple_of 𝓛 core.signature (core.spec 𝓛 at_mem run)).Ghost
-    to-core p-found α-found δ-found f-found α-queued δ-queued f-queued α-outstanding δ-outstanding f-outstanding α-transmissions
-        δ-transmissions f-transmissions α-ready δ-ready f-ready α-waiting δ-waiting f-waiting α-waiting-numbers δ-waiting-numbers
-        f-waiting-numbers y₀ u₀ y₁ u₁ y₂ u₂ y₃ u₃ y₄ u₄ y₅ u₅ y₆ u₆ y₇ u₇ = (
+    to_core p_found α_found δ_found f_found α_queued δ_queued f_queued α_outstanding δ_outstanding f_outstanding α_transmissions
+        δ_transmissions f_transmissions α_ready δ_ready f_ready α_waiting δ_waiting f_waiting α_waiting_numbers δ_waiting_numbers
+        f_waiting_numbers y₀ u₀ y₁ u₁ y₂ u₂ y₃ u₃ y₄ u₄ y₅ u₅ y₆ u₆ y₇ u₇ = (
           (
             (
-              (α-found ∷ []),
+              (α_found ∷ []),
               (
-                (α-queued ∷ []),
+                (α_queued ∷ []),
                 (
-                  (α-outstanding ∷ []),
+                  (α_outstanding ∷ []),
                   (
-                    (α-transmissions ∷ []),
-                    ((α-ready ∷ []), ((α-waiting ∷ []), ((α-waiting-numbers ∷ []), (κ₁, (κ₂, (κ₄, (κ₅, (κ₆, tt)))))))),
+                    (α_transmissions ∷ []),
+                    ((α_ready ∷ []), ((α_waiting ∷ []), ((α_waiting_numbers ∷ []), (κ₁, (κ₂, (κ₄, (κ₅, (κ₆, tt)))))))),
                   ),
                 ),
               ),
@@ -489,22 +489,22 @@ module _ {M : Type 1} {𝓤 : Ura M} (𝓛 : Logic 𝓤) (at_mem : Memory → SP
                     (
                       y₄,
                       (
-                        (ref-at p-found 0 δ-found f-found),
+                        (ref_at p_found 0 δ_found f_found),
                         (
                           y₅,
                           (
                             y₆,
                             (
-                              (ref-at b (o + 124) δ-queued f-queued),
+                              (ref_at b (o + 124) δ_queued f_queued),
                               (
-                                (ref-at b (o + 636) δ-outstanding f-outstanding),
+                                (ref_at b (o + 636) δ_outstanding f_outstanding),
                                 (
-                                  (ref-at b (o + 764) δ-transmissions f-transmissions),
+                                  (ref_at b (o + 764) δ_transmissions f_transmissions),
                                   (
-                                    (ref-at b (o + 796) δ-ready f-ready),
+                                    (ref_at b (o + 796) δ_ready f_ready),
                                     (
-                                      (ref-at b (o + 1308) δ-waiting f-waiting),
-                                      ((ref-at b (o + 1820) δ-waiting-numbers f-waiting-numbers), (x₁, (x₂, (x₄, (y₇, (x₇, (x₈, tt))))))),
+                                      (ref_at b (o + 1308) δ_waiting f_waiting),
+                                      ((ref_at b (o + 1820) δ_waiting_numbers f_waiting_numbers), (x₁, (x₂, (x₄, (y₇, (x₇, (x₈, tt))))))),
                                     ),
                                   ),
                                 ),
@@ -529,7 +529,7 @@ module _ {M : Type 1} {𝓤 : Ura M} (𝓛 : Logic 𝓤) (at_mem : Memory → SP
                     (
                       u₄ ∷ [],
                       (
-                        (vptr p-found 0) ∷ [],
+                        (vptr p_found 0) ∷ [],
                         (
                           u₅ ∷ [],
                           (
@@ -568,54 +568,54 @@ module _ {M : Type 1} {𝓤 : Ura M} (𝓛 : Logic 𝓤) (at_mem : Memory → SP
           tt,
         )
 
-    asks-core : (p-found : ℕ) (α-found : ℕ) (δ-found : GName) (f-found : (List ℕ)) (α-queued : ℕ) (δ-queued : GName) (f-queued : (List ℕ))
-        (α-outstanding : ℕ) (δ-outstanding : GName) (f-outstanding : (List ℕ)) (α-transmissions : ℕ) (δ-transmissions : GName)
-        (f-transmissions : (List ℕ)) (α-ready : ℕ) (δ-ready : GName) (f-ready : (List ℕ)) (α-waiting : ℕ) (δ-waiting : GName)
-        (f-waiting : (List ℕ)) (α-waiting-numbers : ℕ) (δ-waiting-numbers : GName) (f-waiting-numbers : (List ℕ))
+    asks_core : (p_found : ℕ) (α_found : ℕ) (δ_found : GName) (f_found : (List ℕ)) (α_queued : ℕ) (δ_queued : GName) (f_queued : (List ℕ))
+        (α_outstanding : ℕ) (δ_outstanding : GName) (f_outstanding : (List ℕ)) (α_transmissions : ℕ) (δ_transmissions : GName)
+        (f_transmissions : (List ℕ)) (α_ready : ℕ) (δ_ready : GName) (f_ready : (List ℕ)) (α_waiting : ℕ) (δ_waiting : GName)
+        (f_waiting : (List ℕ)) (α_waiting_numbers : ℕ) (δ_waiting_numbers : GName) (f_waiting_numbers : (List ℕ))
         → (y₀ : Settings) (u₀ : Val) → Is settings-row.the_row y₀ (u₀ ∷ []) → (y₁ : Flight) (u₁ : Val)
         → Is flight-row.the_row y₁ (u₁ ∷ []) → (y₂ : Arrival) (u₂ : Val) → Is arrival-row.the_row y₂ (u₂ ∷ [])
         → (y₃ : Clock) (u₃ : Val) → Is clock-row.the_row y₃ (u₃ ∷ []) → (y₄ : Bool) (u₄ : Val) → Is Boolean y₄ (u₄ ∷ [])
         → (y₅ : ℕ) (u₅ : Val) → Is usize y₅ (u₅ ∷ []) → (y₆ : Bool) (u₆ : Val) → Is Boolean y₆ (u₆ ∷ [])
         → (y₇ : ℕ) (u₇ : Val) → Is u32 y₇ (u₇ ∷ [])
-        → (Whole (arrays f-queued f-outstanding f-transmissions f-ready f-waiting f-waiting-numbers) × (length f-found ≡ 128) × Sounds
-        (link_of y₀ y₁ y₂ y₃ (arrays f-queued f-outstanding f-transmissions f-ready f-waiting f-waiting-numbers)) y₄)
-        → ent 𝓤 (⋆ 𝓛 (‵ (flft (α-found ∷ []) full_share)
-        ∷ ‵ ((MutRef (named 0) (α-found ∷ []) (Array u32 128)).own_val (ref-at p-found 0 δ-found f-found) ((vptr p-found 0) ∷ []))
-        ∷ ‵ (flft (α-queued ∷ []) full_share)
-        ∷ ‵ ((MutRef (named 0) (α-queued ∷ []) (Array u32 128)).own_val (ref-at b (o + 124) δ-queued f-queued) ((vptr b (o + 124)) ∷ []))
-        ∷ ‵ (flft (α-outstanding ∷ []) full_share)
-        ∷ ‵ ((MutRef (named 0) (α-outstanding ∷ []) (Array u32 32)).own_val (ref-at b (o + 636) δ-outstanding f-outstanding)
-        ((vptr b (o + 636)) ∷ [])) ∷ ‵ (flft (α-transmissions ∷ []) full_share)
-        ∷ ‵ ((MutRef (named 0) (α-transmissions ∷ []) (Array u8 32)).own_val (ref-at b (o + 764) δ-transmissions f-transmissions)
-        ((vptr b (o + 764)) ∷ [])) ∷ ‵ (flft (α-ready ∷ []) full_share)
-        ∷ ‵ ((ShrRef (named 0) (α-ready ∷ []) (Array u32 128)).own_val (ref-at b (o + 796) δ-ready f-ready) ((vptr b (o + 796)) ∷ []))
-        ∷ ‵ (flft (α-waiting ∷ []) full_share)
-        ∷ ‵ ((ShrRef (named 0) (α-waiting ∷ []) (Array u32 128)).own_val (ref-at b (o + 1308) δ-waiting f-waiting) ((vptr b (o + 1308)) ∷ []))
-        ∷ ‵ (flft (α-waiting-numbers ∷ []) full_share)
-        ∷ ‵ ((ShrRef (named 0) (α-waiting-numbers ∷ []) (Array u32 128)).own_val (ref-at b (o + 1820) δ-waiting-numbers f-waiting-numbers)
+        → (Whole (arrays f_queued f_outstanding f_transmissions f_ready f_waiting f_waiting_numbers) × (length f_found ≡ 128) × Sounds
+        (link_of y₀ y₁ y₂ y₃ (arrays f_queued f_outstanding f_transmissions f_ready f_waiting f_waiting_numbers)) y₄)
+        → ent 𝓤 (⋆ 𝓛 (‵ (flft (α_found ∷ []) full_share)
+        ∷ ‵ ((MutRef (named 0) (α_found ∷ []) (Array u32 128)).own_val (ref_at p_found 0 δ_found f_found) ((vptr p_found 0) ∷ []))
+        ∷ ‵ (flft (α_queued ∷ []) full_share)
+        ∷ ‵ ((MutRef (named 0) (α_queued ∷ []) (Array u32 128)).own_val (ref_at b (o + 124) δ_queued f_queued) ((vptr b (o + 124)) ∷ []))
+        ∷ ‵ (flft (α_outstanding ∷ []) full_share)
+        ∷ ‵ ((MutRef (named 0) (α_outstanding ∷ []) (Array u32 32)).own_val (ref_at b (o + 636) δ_outstanding f_outstanding)
+        ((vptr b (o + 636)) ∷ [])) ∷ ‵ (flft (α_transmissions ∷ []) full_share)
+        ∷ ‵ ((MutRef (named 0) (α_transmissions ∷ []) (Array u8 32)).own_val (ref_at b (o + 764) δ_transmissions f_transmissions)
+        ((vptr b (o + 764)) ∷ [])) ∷ ‵ (flft (α_ready ∷ []) full_share)
+        ∷ ‵ ((ShrRef (named 0) (α_ready ∷ []) (Array u32 128)).own_val (ref_at b (o + 796) δ_ready f_ready) ((vptr b (o + 796)) ∷ []))
+        ∷ ‵ (flft (α_waiting ∷ []) full_share)
+        ∷ ‵ ((ShrRef (named 0) (α_waiting ∷ []) (Array u32 128)).own_val (ref_at b (o + 1308) δ_waiting f_waiting) ((vptr b (o + 1308)) ∷ []))
+        ∷ ‵ (flft (α_waiting_numbers ∷ []) full_share)
+        ∷ ‵ ((ShrRef (named 0) (α_waiting_numbers ∷ []) (Array u32 128)).own_val (ref_at b (o + 1820) δ_waiting_numbers f_waiting_numbers)
         ((vptr b (o + 1820)) ∷ [])) ∷ ‵ (flft κ₁ q₁) ∷ ‵ Own₁ ∷ ‵ (flft κ₂ q₂) ∷ ‵ Own₂ ∷ ‵ (flft κ₄ q₄) ∷ ‵ Own₄
         ∷ ‵ (flft κ₅ q₅) ∷ ‵ Own₇ ∷ ‵ (flft κ₆ q₆) ∷ ‵ Own₈ ∷ []))
         ((triple_of 𝓛 core.signature (core.spec 𝓛 at_mem run)).pre
-        (to-core p-found α-found δ-found f-found α-queued δ-queued f-queued α-outstanding δ-outstanding f-outstanding α-transmissions
-        δ-transmissions f-transmissions α-ready δ-ready f-ready α-waiting δ-waiting f-waiting α-waiting-numbers δ-waiting-numbers
-        f-waiting-numbers y₀ u₀ y₁ u₁ y₂ u₂ y₃ u₃ y₄ u₄ y₅ u₅ y₆ u₆ y₇ u₇))
-    asks-core p-found α-found δ-found f-found α-queued δ-queued f-queued α-outstanding δ-outstanding f-outstanding α-transmissions
-        δ-transmissions f-transmissions α-ready δ-ready f-ready α-waiting δ-waiting f-waiting α-waiting-numbers δ-waiting-numbers
-        f-waiting-numbers y₀ u₀ is₀ y₁ u₁ is₁ y₂ u₂ is₂ y₃ u₃ is₃ y₄ u₄ is₄ y₅ u₅ is₅ y₆ u₆ is₆ y₇ u₇ is₇ req =
-        qed 𝓛 (‵ (flft (α-found ∷ []) full_share)
-        ∷ ‵ ((MutRef (named 0) (α-found ∷ []) (Array u32 128)).own_val (ref-at p-found 0 δ-found f-found) ((vptr p-found 0) ∷ []))
-        ∷ ‵ (flft (α-queued ∷ []) full_share)
-        ∷ ‵ ((MutRef (named 0) (α-queued ∷ []) (Array u32 128)).own_val (ref-at b (o + 124) δ-queued f-queued) ((vptr b (o + 124)) ∷ []))
-        ∷ ‵ (flft (α-outstanding ∷ []) full_share)
-        ∷ ‵ ((MutRef (named 0) (α-outstanding ∷ []) (Array u32 32)).own_val (ref-at b (o + 636) δ-outstanding f-outstanding)
-        ((vptr b (o + 636)) ∷ [])) ∷ ‵ (flft (α-transmissions ∷ []) full_share)
-        ∷ ‵ ((MutRef (named 0) (α-transmissions ∷ []) (Array u8 32)).own_val (ref-at b (o + 764) δ-transmissions f-transmissions)
-        ((vptr b (o + 764)) ∷ [])) ∷ ‵ (flft (α-ready ∷ []) full_share)
-        ∷ ‵ ((ShrRef (named 0) (α-ready ∷ []) (Array u32 128)).own_val (ref-at b (o + 796) δ-ready f-ready) ((vptr b (o + 796)) ∷ []))
-        ∷ ‵ (flft (α-waiting ∷ []) full_share)
-        ∷ ‵ ((ShrRef (named 0) (α-waiting ∷ []) (Array u32 128)).own_val (ref-at b (o + 1308) δ-waiting f-waiting)
-        ((vptr b (o + 1308)) ∷ [])) ∷ ‵ (flft (α-waiting-numbers ∷ []) full_share)
-        ∷ ‵ ((ShrRef (named 0) (α-waiting-numbers ∷ []) (Array u32 128)).own_val (ref-at b (o + 1820) δ-waiting-numbers f-waiting-numbers)
+        (to_core p_found α_found δ_found f_found α_queued δ_queued f_queued α_outstanding δ_outstanding f_outstanding α_transmissions
+        δ_transmissions f_transmissions α_ready δ_ready f_ready α_waiting δ_waiting f_waiting α_waiting_numbers δ_waiting_numbers
+        f_waiting_numbers y₀ u₀ y₁ u₁ y₂ u₂ y₃ u₃ y₄ u₄ y₅ u₅ y₆ u₆ y₇ u₇))
+    asks_core p_found α_found δ_found f_found α_queued δ_queued f_queued α_outstanding δ_outstanding f_outstanding α_transmissions
+        δ_transmissions f_transmissions α_ready δ_ready f_ready α_waiting δ_waiting f_waiting α_waiting_numbers δ_waiting_numbers
+        f_waiting_numbers y₀ u₀ is₀ y₁ u₁ is₁ y₂ u₂ is₂ y₃ u₃ is₃ y₄ u₄ is₄ y₅ u₅ is₅ y₆ u₆ is₆ y₇ u₇ is₇ req =
+        qed 𝓛 (‵ (flft (α_found ∷ []) full_share)
+        ∷ ‵ ((MutRef (named 0) (α_found ∷ []) (Array u32 128)).own_val (ref_at p_found 0 δ_found f_found) ((vptr p_found 0) ∷ []))
+        ∷ ‵ (flft (α_queued ∷ []) full_share)
+        ∷ ‵ ((MutRef (named 0) (α_queued ∷ []) (Array u32 128)).own_val (ref_at b (o + 124) δ_queued f_queued) ((vptr b (o + 124)) ∷ []))
+        ∷ ‵ (flft (α_outstanding ∷ []) full_share)
+        ∷ ‵ ((MutRef (named 0) (α_outstanding ∷ []) (Array u32 32)).own_val (ref_at b (o + 636) δ_outstanding f_outstanding)
+        ((vptr b (o + 636)) ∷ [])) ∷ ‵ (flft (α_transmissions ∷ []) full_share)
+        ∷ ‵ ((MutRef (named 0) (α_transmissions ∷ []) (Array u8 32)).own_val (ref_at b (o + 764) δ_transmissions f_transmissions)
+        ((vptr b (o + 764)) ∷ [])) ∷ ‵ (flft (α_ready ∷ []) full_share)
+        ∷ ‵ ((ShrRef (named 0) (α_ready ∷ []) (Array u32 128)).own_val (ref_at b (o + 796) δ_ready f_ready) ((vptr b (o + 796)) ∷ []))
+        ∷ ‵ (flft (α_waiting ∷ []) full_share)
+        ∷ ‵ ((ShrRef (named 0) (α_waiting ∷ []) (Array u32 128)).own_val (ref_at b (o + 1308) δ_waiting f_waiting)
+        ((vptr b (o + 1308)) ∷ [])) ∷ ‵ (flft (α_waiting_numbers ∷ []) full_share)
+        ∷ ‵ ((ShrRef (named 0) (α_waiting_numbers ∷ []) (Array u32 128)).own_val (ref_at b (o + 1820) δ_waiting_numbers f_waiting_numbers)
         ((vptr b (o + 1820)) ∷ [])) ∷ ‵ (flft κ₁ q₁) ∷ ‵ Own₁ ∷ ‵ (flft κ₂ q₂) ∷ ‵ Own₂ ∷ ‵ (flft κ₄ q₄)
         ∷ ‵ Own₄ ∷ ‵ (flft κ₅ q₅) ∷ ‵ Own₇ ∷ ‵ (flft κ₆ q₆) ∷ ‵ Own₈ ∷ []) ∵ says ! req $ nothing ! $
         move ! (23 ∷ 0 ∷ []) $ join ! $ move ! (21 ∷ 0 ∷ []) $ join ! $ move ! (19 ∷ 0 ∷ []) $ join ! $ move ! (17 ∷ 0 ∷ []) $ join ! $
@@ -635,45 +635,45 @@ module _ {M : Type 1} {𝓤 : Ura M} (𝓛 : Logic 𝓤) (at_mem : Memory → SP
         (LL.makes settings-row.the_type settings-laws.the_plain 𝓛) y₀ _ is₀ $ fjoin ! $ move ! (1 ∷ 0 ∷ []) $ done !
 
     -- what scatter is called at, and that what it asks is had
-    abbrev to-scatter : (α-outstanding : ℕ) (δ-outstanding : GName) (f-outstanding : (List ℕ)) (p-found : ℕ) (α-found : ℕ) (δ-found : GName)
-        (f-found : (List ℕ)) (y₀ : ℕ) (u₀ : Val) → (triple_of 𝓛 scatter.signature (scatter.spec 𝓛 at_mem run)).Ghost
-    to-scatter α-outstanding δ-outstanding f-outstanding p-found α-found δ-found f-found y₀ u₀ = (
+    abbrev to_scatter : (α_outstanding : ℕ) (δ_outstanding : GName) (f_outstanding : (List ℕ)) (p_found : ℕ) (α_found : ℕ) (δ_found : GName)
+        (f_found : (List ℕ)) (y₀ : ℕ) (u₀ : Val) → (triple_of 𝓛 scatter.signature (scatter.spec 𝓛 at_mem run)).Ghost
+    to_scatter α_outstanding δ_outstanding f_outstanding p_found α_found δ_found f_found y₀ u₀ = (
       (
-        (κ₃, ((α-outstanding ∷ []), ((α-found ∷ []), tt))),
+        (κ₃, ((α_outstanding ∷ []), ((α_found ∷ []), tt))),
         (q₃, (full_share, (full_share, tt))),
         tt,
-        (x₃, ((ref-at b (o + 636) δ-outstanding f-outstanding), (y₀, ((ref-at p-found 0 δ-found f-found), tt)))),
-        (s₃ ∷ [], ((vptr b (o + 636)) ∷ [], (u₀ ∷ [], ((vptr p-found 0) ∷ [], tt)))),
+        (x₃, ((ref_at b (o + 636) δ_outstanding f_outstanding), (y₀, ((ref_at p_found 0 δ_found f_found), tt)))),
+        (s₃ ∷ [], ((vptr b (o + 636)) ∷ [], (u₀ ∷ [], ((vptr p_found 0) ∷ [], tt)))),
       ),
       tt,
     )
 
-    asks-scatter : (α-outstanding : ℕ) (δ-outstanding : GName) (f-outstanding : (List ℕ)) (p-found : ℕ) (α-found : ℕ) (δ-found : GName)
-        (f-found : (List ℕ)) → (y₀ : ℕ) (u₀ : Val) → Is usize y₀ (u₀ ∷ []) → ((length f-outstanding ≡ 32) × (length f-found ≡ 128))
-        → ent 𝓤 (⋆ 𝓛 (‵ (flft κ₃ q₃) ∷ ‵ Own₃ ∷ ‵ (flft (α-outstanding ∷ []) full_share)
-        ∷ ‵ ((ShrRef (named 0) (α-outstanding ∷ []) (Array u32 32)).own_val (ref-at b (o + 636) δ-outstanding f-outstanding)
-        ((vptr b (o + 636)) ∷ [])) ∷ ‵ (flft (α-found ∷ []) full_share)
-        ∷ ‵ ((ShrRef (named 0) (α-found ∷ []) (Array u32 128)).own_val (ref-at p-found 0 δ-found f-found) ((vptr p-found 0) ∷ [])) ∷ []))
+    asks_scatter : (α_outstanding : ℕ) (δ_outstanding : GName) (f_outstanding : (List ℕ)) (p_found : ℕ) (α_found : ℕ) (δ_found : GName)
+        (f_found : (List ℕ)) → (y₀ : ℕ) (u₀ : Val) → Is usize y₀ (u₀ ∷ []) → ((length f_outstanding ≡ 32) × (length f_found ≡ 128))
+        → ent 𝓤 (⋆ 𝓛 (‵ (flft κ₃ q₃) ∷ ‵ Own₃ ∷ ‵ (flft (α_outstanding ∷ []) full_share)
+        ∷ ‵ ((ShrRef (named 0) (α_outstanding ∷ []) (Array u32 32)).own_val (ref_at b (o + 636) δ_outstanding f_outstanding)
+        ((vptr b (o + 636)) ∷ [])) ∷ ‵ (flft (α_found ∷ []) full_share)
+        ∷ ‵ ((ShrRef (named 0) (α_found ∷ []) (Array u32 128)).own_val (ref_at p_found 0 δ_found f_found) ((vptr p_found 0) ∷ [])) ∷ []))
         ((triple_of 𝓛 scatter.signature (scatter.spec 𝓛 at_mem run)).pre
-        (to-scatter α-outstanding δ-outstanding f-outstanding p-found α-found δ-found f-found y₀ u₀))
-    asks-scatter α-outstanding δ-outstanding f-outstanding p-found α-found δ-found f-found y₀ u₀ is₀ req =
-        qed 𝓛 (‵ (flft κ₃ q₃) ∷ ‵ Own₃ ∷ ‵ (flft (α-outstanding ∷ []) full_share)
-        ∷ ‵ ((ShrRef (named 0) (α-outstanding ∷ []) (Array u32 32)).own_val (ref-at b (o + 636) δ-outstanding f-outstanding)
-        ((vptr b (o + 636)) ∷ [])) ∷ ‵ (flft (α-found ∷ []) full_share)
-        ∷ ‵ ((ShrRef (named 0) (α-found ∷ []) (Array u32 128)).own_val (ref-at p-found 0 δ-found f-found) ((vptr p-found 0) ∷ [])) ∷ []) ∵
+        (to_scatter α_outstanding δ_outstanding f_outstanding p_found α_found δ_found f_found y₀ u₀))
+    asks_scatter α_outstanding δ_outstanding f_outstanding p_found α_found δ_found f_found y₀ u₀ is₀ req =
+        qed 𝓛 (‵ (flft κ₃ q₃) ∷ ‵ Own₃ ∷ ‵ (flft (α_outstanding ∷ []) full_share)
+        ∷ ‵ ((ShrRef (named 0) (α_outstanding ∷ []) (Array u32 32)).own_val (ref_at b (o + 636) δ_outstanding f_outstanding)
+        ((vptr b (o + 636)) ∷ [])) ∷ ‵ (flft (α_found ∷ []) full_share)
+        ∷ ‵ ((ShrRef (named 0) (α_found ∷ []) (Array u32 128)).own_val (ref_at p_found 0 δ_found f_found) ((vptr p_found 0) ∷ [])) ∷ []) ∵
         says ! req $ nothing ! $ move ! (5 ∷ 0 ∷ []) $ join ! $ move ! (3 ∷ 0 ∷ []) $ join ! $ move ! (1 ∷ 0 ∷ []) $ join ! $
         nothing ! $ move ! (4 ∷ 0 ∷ []) $ fjoin ! $ owned ! usize (Is usize) (uint_Makes 𝓛 w64) y₀ _ is₀ $ fjoin ! $
         move ! (3 ∷ 0 ∷ []) $ fjoin ! $ move ! (2 ∷ 0 ∷ []) $ fjoin ! $ move ! (1 ∷ 0 ∷ []) $ done !
 
     abbrev Had : (k : Link) (z₃ : List Record) (z₇ : List ℕ) (z₈ : List ℕ) → List (Item 𝓤)
-    Had k z₃ z₇ z₈ = ‵ (link-own κ₀ b o γ k) ∷ ‵ (flft κ₀ q₀) ∷ ‵ (flft κ₁ q₁) ∷ ‵ (flft κ₂ q₂)
+    Had k z₃ z₇ z₈ = ‵ (link_own κ₀ b o γ k) ∷ ‵ (flft κ₀ q₀) ∷ ‵ (flft κ₁ q₁) ∷ ‵ (flft κ₂ q₂)
         ∷ ‵ (finally R x₃.name z₃) ∷ ‵ (flft κ₃ q₃) ∷ ‵ (flft κ₄ q₄) ∷ ‵ (finally u8 x₇.name z₇)
         ∷ ‵ (flft κ₅ q₅) ∷ ‵ (finally u16 x₈.name z₈) ∷ ‵ (flft κ₆ q₆) ∷ []
 
     -- what the contract says
     abbrev Said : (r : ℤ) (k : Link) (z₃ : List Record) (z₇ : List ℕ) (z₈ : List ℕ) → Type 0
-    Said r k z₃ z₇ z₈ = WrittenOut x₅ x₆ h (parts_of x₁.now x₂.now x₃.now x₄.now) (flushPartsOf x₇.now x₈.now) k
-        (parts_of x₁.now x₂.now z₃ x₄.now) (flushPartsOf z₇ z₈) r
+    Said r k z₃ z₇ z₈ = WrittenOut x₅ x₆ h (parts_of x₁.now x₂.now x₃.now x₄.now) (flush_parts_of x₇.now x₈.now) k
+        (parts_of x₁.now x₂.now z₃ x₄.now) (flush_parts_of z₇ z₈) r
 
     exits : (r : ℤ) (w : Val) (k : Link) (z₃ : List Record) (z₇ : List ℕ) (z₈ : List ℕ) → Said r k z₃ z₇ z₈
         → length z₃ ≡ length x₃.now → length z₇ ≡ length x₇.now → length z₈ ≡ length x₈.now → Is i32 r (w ∷ [])
@@ -693,14 +693,14 @@ module _ {M : Type 1} {𝓤 : Ura M} (𝓛 : Logic 𝓤) (at_mem : Memory → SP
     module _ (C : Calls 𝓤 H) (Λ : Loops 𝓤 H) (fm : FmC 𝓤 H 𝓛.laws C) (known : Known C) where
       -- where the locals lie
       abbrev En : (ℕ → ℕ) → Env 𝓤 H
-      En p = envAt (code.function).locals p
+      En p = env_at (code.function).locals p
 
       -- part 1: what it knows, what it tells; what it has, and leaves
       abbrev Known₁ : Type 0
       Known₁ = Unit {0}
 
       abbrev New₁ : Known₁ → Type 0
-      New₁ past = (sends : (List ℕ)) × (w-sends : Val) × (e-sends : sends ≡ noneToSend) × (Is (Array u8 128) sends (w-sends ∷ []))
+      New₁ past = (sends : (List ℕ)) × (w_sends : Val) × (e_sends : sends ≡ none_to_send) × (Is (Array u8 128) sends (w_sends ∷ []))
 
       abbrev Has₁ : (ℕ → ℕ) → Known₁ → List (Item 𝓤) → List (Item 𝓤)
       Has₁ p past Γ = ‵ (froom (ty_array (ty_int w8) 128) (p 25) 0) ∷ Γ
@@ -714,21 +714,21 @@ module _ {M : Type 1} {𝓤 : Ura M} (𝓛 : Logic 𝓤) (at_mem : Memory → SP
       part₁ {Γ = Γ} t p past on = record {
         prf =
             qed 𝓛 (Has₁ p past Γ) ∵ exec ! C Λ (En p) (behind 0 (code.function).body) (at_ret (En p) Post) $
-            nothing ! $ calls-fn ! fm send-marks-of.ended (send-marks-of.clauses 𝓛 at_mem run) known.0 ((tt, tt, tt, tt, tt), tt)
-            (λ sends _. sends ≡ noneToSend)
+            nothing ! $ calls_fn ! fm send-marks-of.ended (send-marks-of.clauses 𝓛 at_mem run) known.0 ((tt, tt, tt, tt, tt), tt)
+            (λ sends _. sends ≡ none_to_send)
             (‵ ftrue) (plainly 𝓛 ([]) tt tt tt tt) (λ sends _. id⊢ 𝓤 _)
-            (no_more !) (λ sends w-sends _ e-sends is-sends. drop ! $ drop ! $
-            land ! (from ! (stop !)) (init ! 0 refl (Array-Typed u8 (uint_Lawful 𝓛 w8).typed 128 sends (w-sends ∷ []) is-sends).0) $
-            same ! (on (sends, w-sends, e-sends, is-sends)));
+            (no_more !) (λ sends w_sends _ e_sends is_sends. drop ! $ drop ! $
+            land ! (from ! (stop !)) (init ! 0 refl (Array-Typed u8 (uint_Lawful 𝓛 w8).typed 128 sends (w_sends ∷ []) is_sends).0) $
+            same ! (on (sends, w_sends, e_sends, is_sends)));
       }
 
       -- part 2: what it knows, what it tells; what it has, and leaves
       abbrev Known₂ : Type 0
-      Known₂ = (sends : (List ℕ)) × (w-sends : Val) × (Is (Array u8 128) sends (w-sends ∷ []))
+      Known₂ = (sends : (List ℕ)) × (w_sends : Val) × (Is (Array u8 128) sends (w_sends ∷ []))
 
       abbrev New₂ : Known₂ → Type 0
-      New₂ past = (receives : (List ℕ)) × (w-receives : Val) × (e-receives : receives ≡ none) ×
-          (Is (Array u8 256) receives (w-receives ∷ []))
+      New₂ past = (receives : (List ℕ)) × (w_receives : Val) × (e_receives : receives ≡ none) ×
+          (Is (Array u8 256) receives (w_receives ∷ []))
 
       abbrev Has₂ : (ℕ → ℕ) → Known₂ → List (Item 𝓤) → List (Item 𝓤)
       Has₂ p past Γ = ‵ (fat full_share (ty_array (ty_int w8) 128) (p 25) 0 (past.1)) ∷ ‵ (froom (ty_array (ty_int w8) 256) (p 26) 0)
@@ -747,28 +747,28 @@ module _ {M : Type 1} {𝓤 : Ura M} (𝓛 : Logic 𝓤) (at_mem : Memory → SP
             qed 𝓛 (Has₂ p past Γ) ∵ exec ! C Λ (En p) (behind 1 (code.function).body) (at_ret (En p) Post) $
             assigns ! {v = past.1} (of_opd ! (load ! (from ! (stop !)) (look ! 0 refl))) (from ! (stop !))
             (init ! 2 refl (Array-Typed u8 (uint_Lawful 𝓛 w8).typed 128 past.0 (past.1 ∷ []) past.2).0) $
-            nothing ! $ calls-fn ! fm marks-of.ended (marks-of.clauses 𝓛 at_mem run) known.1 ((tt, tt, tt, tt, tt), tt)
+            nothing ! $ calls_fn ! fm marks-of.ended (marks-of.clauses 𝓛 at_mem run) known.1 ((tt, tt, tt, tt, tt), tt)
             (λ receives _. receives ≡ none)
             (‵ ftrue) (plainly 𝓛 ([]) tt tt tt tt) (λ receives _. id⊢ 𝓤 _)
-            (no_more !) (λ receives w-receives _ e-receives is-receives. drop ! $ drop ! $
-            land ! (from ! (stop !)) (init ! 1 refl (Array-Typed u8 (uint_Lawful 𝓛 w8).typed 256 receives (w-receives ∷ [])
+            (no_more !) (λ receives w_receives _ e_receives is-receives. drop ! $ drop ! $
+            land ! (from ! (stop !)) (init ! 1 refl (Array-Typed u8 (uint_Lawful 𝓛 w8).typed 256 receives (w_receives ∷ [])
             is-receives
             ).0) $
-            same ! (on (receives, w-receives, e-receives, is-receives)));
+            same ! (on (receives, w_receives, e_receives, is-receives)));
       }
 
       -- part 3: what it knows, what it tells; what it has, and leaves
       abbrev Known₃ : Type 0
-      Known₃ = (sends : (List ℕ)) × (w-sends : Val) × (e-sends : sends ≡ noneToSend) × (is-sends : Is (Array u8 128) sends (w-sends ∷ [])) ×
-          (receives : (List ℕ)) × (w-receives : Val) × (e-receives : receives ≡ none) × (Is (Array u8 256) receives (w-receives ∷ []))
+      Known₃ = (sends : (List ℕ)) × (w_sends : Val) × (e_sends : sends ≡ none_to_send) × (is_sends : Is (Array u8 128) sends (w_sends ∷ [])) ×
+          (receives : (List ℕ)) × (w_receives : Val) × (e_receives : receives ≡ none) × (Is (Array u8 256) receives (w_receives ∷ []))
 
       abbrev New₃ : Known₃ → Type 0
-      New₃ past = (z-receives : List ℕ) × (z-sends : List ℕ) × (ok : Bool) × (w-ok : Val) × (e-ok : Sound h z-sends z-receives ok) ×
-          (Is Boolean ok (w-ok ∷ []))
+      New₃ past = (z_receives : List ℕ) × (z_sends : List ℕ) × (ok : Bool) × (w_ok : Val) × (e_ok : Sound h z_sends z_receives ok) ×
+          (Is Boolean ok (w_ok ∷ []))
 
       abbrev Has₃ : (ℕ → ℕ) → Known₃ → List (Item 𝓤) → List (Item 𝓤)
       Has₃ p past Γ = ‵ (fat full_share (ty_array (ty_int w8) 256) (p 26) 0 (past.5))
-          ∷ ‵ (fat full_share (ty_array (ty_int w8) 128) (p 10) 0 (past.1)) ∷ ‵ (flft κ₀ q₀) ∷ ‵ (link-own κ₀ b o γ h)
+          ∷ ‵ (fat full_share (ty_array (ty_int w8) 128) (p 10) 0 (past.1)) ∷ ‵ (flft κ₀ q₀) ∷ ‵ (link_own κ₀ b o γ h)
           ∷ ‵ (froom (ty_ref erased mut (ty_array (ty_int w8) 256)) (p 29) 0) ∷ ‵ (froom (ty_ref erased mut (ty_array (ty_int w8) 128)) (p 28) 0)
           ∷ ‵ (froom (ty_ref erased imm (pointee L.written)) (p 27) 0) ∷ ‵ (froom ty_bool (p 12) 0)
           ∷ ‵ (froom (ty_array (ty_int w8) 256) (p 11) 0) ∷ ‵ (fat full_share (ty_ref (named 0) mut (pointee L.written)) (p 1) 0 (vptr b o))
@@ -776,7 +776,7 @@ module _ {M : Type 1} {𝓤 : Ura M} (𝓛 : Logic 𝓤) (at_mem : Memory → SP
 
       abbrev Leaves₃ : (ℕ → ℕ) → (past : Known₃) → New₃ past → List (Item 𝓤) → List (Item 𝓤)
       Leaves₃ p past new Γ = ‵ (fat full_share (ty_array (ty_int w8) 256) (p 11) 0 ((only ((array_vals (uint_vals w8)) new.0))))
-          ∷ ‵ (fat full_share (ty_array (ty_int w8) 128) (p 10) 0 ((only ((array_vals (uint_vals w8)) new.1)))) ∷ ‵ (link-own κ₀ b o γ h)
+          ∷ ‵ (fat full_share (ty_array (ty_int w8) 128) (p 10) 0 ((only ((array_vals (uint_vals w8)) new.1)))) ∷ ‵ (link_own κ₀ b o γ h)
           ∷ ‵ (flft κ₀ q₀) ∷ ‵ (fat full_share (ty_array (ty_int w8) 256) (p 26) 0 (past.5))
           ∷ ‵ (fat full_share (ty_ref erased mut (ty_array (ty_int w8) 256)) (p 29) 0 ((vptr (p 11) 0)))
           ∷ ‵ (fat full_share (ty_ref erased mut (ty_array (ty_int w8) 128)) (p 28) 0 ((vptr (p 10) 0)))
@@ -794,50 +794,50 @@ module _ {M : Type 1} {𝓤 : Ura M} (𝓛 : Logic 𝓤) (at_mem : Memory → SP
             assigns ! {v = (vptr b o)} (addr ! (from ! (hop ! (look ! 9 refl) (stop !)))) (from ! (stop !)) (init ! 6 refl (tt, tt)) $
             assigns ! {v = (vptr (p 10) 0)} (addr ! (from ! (stop !))) (from ! (stop !)) (init ! 5 refl (tt, tt)) $
             assigns ! {v = (vptr (p 11) 0)} (addr ! (from ! (stop !))) (from ! (stop !)) (init ! 4 refl (tt, tt)) $
-            move ! (3 ∷ 2 ∷ []) $ lend-whole ! tt L h b o γ
-            (λ α-block δ-block. move ! (5 ∷ []) $
+            move ! (3 ∷ 2 ∷ []) $ lend_whole ! tt L h b o γ
+            (λ α_block δ_block. move ! (5 ∷ []) $
             use1 𝓛 (‵ (cell_at full_share ((ty_array (ty_int w8) 128) ∷ []) (past.1 ∷ []) (p 10) 0))
             (𝓛.laws.at_raw full_share (ty_array (ty_int w8) 128) (p 10) 0 past.1) $
             cell_in ! full_share (Array u8 128) (Array-Makes 𝓛 u8 (uint_Makes 𝓛 w8) 128) past.0 (p 10) 0 past.1
             past.3 $
-            lend-mut ! tt (Array u8 128) past.0 (p 10) 0
-            (λ α-sends δ-sends. move ! (12 ∷ []) $
+            lend_mut ! tt (Array u8 128) past.0 (p 10) 0
+            (λ α_sends δ_sends. move ! (12 ∷ []) $
             use1 𝓛 (‵ (cell_at full_share ((ty_array (ty_int w8) 256) ∷ []) (past.5 ∷ []) (p 11) 0))
             (𝓛.laws.at_raw full_share (ty_array (ty_int w8) 256) (p 11) 0 past.5) $
             cell_in ! full_share (Array u8 256) (Array-Makes 𝓛 u8 (uint_Makes 𝓛 w8) 256) past.4 (p 11) 0 past.5
             past.7 $
-            lend-mut ! tt (Array u8 256) past.4 (p 11) 0
-            (λ α-receives δ-receives. move ! (6 ∷ 7 ∷ 3 ∷ 4 ∷ 0 ∷ 1 ∷ []) $ group ! 6 $
-            calls-fn ! fm check.ended (check.clauses 𝓛 at_mem run) known.2
-            (to-check α-block δ-block h (p 10) α-sends δ-sends past.0 (p 11) α-receives δ-receives past.4)
+            lend_mut ! tt (Array u8 256) past.4 (p 11) 0
+            (λ α_receives δ_receives. move ! (6 ∷ 7 ∷ 3 ∷ 4 ∷ 0 ∷ 1 ∷ []) $ group ! 6 $
+            calls_fn ! fm check.ended (check.clauses 𝓛 at_mem run) known.2
+            (to_check α_block δ_block h (p 10) α_sends δ_sends past.0 (p 11) α_receives δ_receives past.4)
             (λ ok ws-ok. Sound h ws-ok.1.0 ws-ok.1.1.0 ok)
-            (‵ (flft (α-block ∷ []) full_share) ⊛ ‵ ((ShrRef (named 0) (α-block ∷ []) L).own_val (ref-at b o δ-block h) ((vptr b o) ∷ [])) ⊛ ‵
-            (flft (α-sends ∷ []) full_share) ⊛ ‵ ((MutRef (named 0) (α-sends ∷ []) (Array u8 128)).own_val (ref-at (p 10) 0 δ-sends past.0)
-            ((vptr (p 10) 0) ∷ [])) ⊛ ‵ (flft (α-receives ∷ []) full_share) ⊛ ‵
-            ((MutRef (named 0) (α-receives ∷ []) (Array u8 256)).own_val (ref-at (p 11) 0 δ-receives past.4) ((vptr (p 11) 0) ∷ [])))
-            (asks-check α-block δ-block h (p 10) α-sends δ-sends past.0 (p 11) α-receives δ-receives past.4 (past.2, past.6))
+            (‵ (flft (α_block ∷ []) full_share) ⊛ ‵ ((ShrRef (named 0) (α_block ∷ []) L).own_val (ref_at b o δ_block h) ((vptr b o) ∷ [])) ⊛ ‵
+            (flft (α_sends ∷ []) full_share) ⊛ ‵ ((MutRef (named 0) (α_sends ∷ []) (Array u8 128)).own_val (ref_at (p 10) 0 δ_sends past.0)
+            ((vptr (p 10) 0) ∷ [])) ⊛ ‵ (flft (α_receives ∷ []) full_share) ⊛ ‵
+            ((MutRef (named 0) (α_receives ∷ []) (Array u8 256)).own_val (ref_at (p 11) 0 δ_receives past.4) ((vptr (p 11) 0) ∷ [])))
+            (asks_check α_block δ_block h (p 10) α_sends δ_sends past.0 (p 11) α_receives δ_receives past.4 (past.2, past.6))
             (λ ok ws-ok. id⊢ 𝓤 _)
             (and_then ! (load ! (from ! (stop !)) (look ! 8 refl))
             (and_then ! (load ! (from ! (stop !)) (look ! 7 refl)) (and_then ! (load ! (from ! (stop !)) (look ! 6 refl)) (no_more !))))
-            (λ ok w-ok ws-ok e-ok is_ok. land ! (from ! (stop !)) (init ! 10 refl ((bool_Lawful 𝓛).typed ok _ is_ok).0) $
-            spread 𝓛 (‵ (flft (α-block ∷ []) full_share))
-            (‵ (flft (α-sends ∷ []) full_share) ∷ ‵ (flft (α-receives ∷ []) full_share) ∷ ‵ ftrue ∷ []) (id⊢ 𝓤 _) $ move ! (4 ∷ []) $
-            spread 𝓛 (‵ ftrue) (‵ (fres δ-sends ((Array u8 128).coded.code ws-ok.1.0))
-            ∷ ‵ (fres δ-receives ((Array u8 256).coded.code ws-ok.1.1.0)) ∷ ‵ ftrue ∷ []) (id⊢ 𝓤 _) $ move ! (7 ∷ 3 ∷ 0 ∷ []) $
+            (λ ok w_ok ws-ok e_ok is_ok. land ! (from ! (stop !)) (init ! 10 refl ((bool_Lawful 𝓛).typed ok _ is_ok).0) $
+            spread 𝓛 (‵ (flft (α_block ∷ []) full_share))
+            (‵ (flft (α_sends ∷ []) full_share) ∷ ‵ (flft (α_receives ∷ []) full_share) ∷ ‵ ftrue ∷ []) (id⊢ 𝓤 _) $ move ! (4 ∷ []) $
+            spread 𝓛 (‵ ftrue) (‵ (fres δ_sends ((Array u8 128).coded.code ws-ok.1.0))
+            ∷ ‵ (fres δ_receives ((Array u8 256).coded.code ws-ok.1.1.0)) ∷ ‵ ftrue ∷ []) (id⊢ 𝓤 _) $ move ! (7 ∷ 3 ∷ 0 ∷ []) $
             group ! 3 $ drop ! $
             -- [fin:@sends; fin:@receives; tok:*; tok:@sends; tok:@receives; lent:@receives; lent:@sends; lent:*; opened; the locals]
             move ! (2 ∷ 7 ∷ 8 ∷ []) $ back_whole ! tt L h b o γ $ move ! (4 ∷ 7 ∷ 2 ∷ []) $
-            back-mut ! tt (Array u8 128) (p 10) 0 ws-ok.1.0 $
+            back_mut ! tt (Array u8 128) (p 10) 0 ws-ok.1.0 $
             cell_out ! full_share (Array u8 128) (array_vals (uint_vals w8)) (Array-Tells u8 (uint_vals w8) (uint_Tells w8) 128)
-            ws-ok.1.0 (p 10) 0 (λ was-sends-1. use1 𝓛
+            ws-ok.1.0 (p 10) 0 (λ was_sends_1. use1 𝓛
             (‵ (fat full_share (ty_array (ty_int w8) 128) (p 10) 0 (only ((array_vals (uint_vals w8)) ws-ok.1.0))))
             (𝓛.laws.raw_at full_share (ty_array (ty_int w8) 128) (p 10) 0 (only ((array_vals (uint_vals w8)) ws-ok.1.0))) $
-            move ! (4 ∷ 5 ∷ 3 ∷ []) $ back-mut ! tt (Array u8 256) (p 11) 0 ws-ok.1.1.0 $
+            move ! (4 ∷ 5 ∷ 3 ∷ []) $ back_mut ! tt (Array u8 256) (p 11) 0 ws-ok.1.1.0 $
             cell_out ! full_share (Array u8 256) (array_vals (uint_vals w8)) (Array-Tells u8 (uint_vals w8) (uint_Tells w8) 256)
-            ws-ok.1.1.0 (p 11) 0 (λ was-receives-2. use1 𝓛
+            ws-ok.1.1.0 (p 11) 0 (λ was_receives_2. use1 𝓛
             (‵ (fat full_share (ty_array (ty_int w8) 256) (p 11) 0 (only ((array_vals (uint_vals w8)) ws-ok.1.1.0))))
             (𝓛.laws.raw_at full_share (ty_array (ty_int w8) 256) (p 11) 0 (only ((array_vals (uint_vals w8)) ws-ok.1.1.0))) $
-            same ! (on (ws-ok.1.1.0, ws-ok.1.0, ok, w-ok, e-ok, is_ok))))))));
+            same ! (on (ws-ok.1.1.0, ws-ok.1.0, ok, w_ok, e_ok, is_ok))))))));
       }
 
       -- part 4: what it knows, what it tells; what it has, and leaves
@@ -845,17 +845,17 @@ module _ {M : Type 1} {𝓤 : Ura M} (𝓛 : Logic 𝓤) (at_mem : Memory → SP
       Known₄ = Unit {0}
 
       abbrev New₄ : Known₄ → Type 0
-      New₄ past = (len-queued : length h.queued ≡ 128) × (len-outstanding : length h.outstanding ≡ 32) ×
-          (len-transmissions : length h.transmissions ≡ 32) × (len-ready : length h.ready ≡ 128) ×
-          (len-waiting : length h.waiting ≡ 128) × (len-waiting-numbers : length h.waiting_numbers ≡ 128) ×
-          (was-settings : Is settings-row.the_row h.settings ((LL.vals settings-row.the_type settings-laws.the_laws) h.settings)) ×
-          (was-flight : Is flight-row.the_row h.flight ((LL.vals flight-row.the_type flight-laws.the_laws) h.flight)) ×
-          (was-arrival : Is arrival-row.the_row h.arrival ((LL.vals arrival-row.the_type arrival-laws.the_laws) h.arrival)) ×
-          (was-clock : Is clock-row.the_row h.clock ((LL.vals clock-row.the_type clock-laws.the_laws) h.clock)) × (n : ℕ) ×
-          (w-n : Val) × (e-n : n ≡ h.flight.outstanding) × (Is usize n (w-n ∷ []))
+      New₄ past = (len_queued : length h.queued ≡ 128) × (len_outstanding : length h.outstanding ≡ 32) ×
+          (len_transmissions : length h.transmissions ≡ 32) × (len_ready : length h.ready ≡ 128) ×
+          (len_waiting : length h.waiting ≡ 128) × (len_waiting_numbers : length h.waiting_numbers ≡ 128) ×
+          (was_settings : Is settings-row.the_row h.settings ((LL.vals settings-row.the_type settings-laws.the_laws) h.settings)) ×
+          (was_flight : Is flight-row.the_row h.flight ((LL.vals flight-row.the_type flight-laws.the_laws) h.flight)) ×
+          (was_arrival : Is arrival-row.the_row h.arrival ((LL.vals arrival-row.the_type arrival-laws.the_laws) h.arrival)) ×
+          (was_clock : Is clock-row.the_row h.clock ((LL.vals clock-row.the_type clock-laws.the_laws) h.clock)) × (n : ℕ) ×
+          (w_n : Val) × (e_n : n ≡ h.flight.outstanding) × (Is usize n (w_n ∷ []))
 
       abbrev Has₄ : (ℕ → ℕ) → Known₄ → List (Item 𝓤) → List (Item 𝓤)
-      Has₄ p past Γ = ‵ (link-own κ₀ b o γ h) ∷ ‵ (flft κ₀ q₀)
+      Has₄ p past Γ = ‵ (link_own κ₀ b o γ h) ∷ ‵ (flft κ₀ q₀)
           ∷ ‵ (fat full_share (ty_ref (named 0) mut (pointee L.written)) (p 1) 0 (vptr b o)) ∷ ‵ (froom (ty_int w64) (p 17) 0)
           ∷ ‵ (froom clock-laws.mir (p 16) 0) ∷ ‵ (froom arrival-laws.mir (p 15) 0) ∷ ‵ (froom flight-laws.mir (p 14) 0)
           ∷ ‵ (froom settings-laws.mir (p 13) 0) ∷ Γ
@@ -883,76 +883,76 @@ module _ {M : Type 1} {𝓤 : Ura M} (𝓛 : Logic 𝓤) (at_mem : Memory → SP
       part₄ {Γ = Γ} t p past on = record {
         prf =
             qed 𝓛 (Has₄ p past Γ) ∵ exec ! C Λ (En p) (behind 8 (code.function).body) (at_ret (En p) Post) $
-            opens-link b o γ ! tt h $
+            opens_link b o γ ! tt h $
             -- [F:settings; F:flight; F:arrival; F:clock; F:queued; F:outstanding; F:transmissions; F:ready; F:waiting; F:«waiting_numbers»;
             -- back; opened; the locals]
-            move ! (4 ∷ []) $ tells-length ! full_share u32 128 h.queued b (o + 124)
-            (λ len-queued. move ! (5 ∷ []) $
-            tells-length ! full_share u32 32 h.outstanding b (o + 636)
-            (λ len-outstanding. move ! (6 ∷ []) $
-            tells-length ! full_share u8 32 h.transmissions b (o + 764)
-            (λ len-transmissions. move ! (7 ∷ []) $
-            tells-length ! full_share u32 128 h.ready b (o + 796)
-            (λ len-ready. move ! (8 ∷ []) $
-            tells-length ! full_share u32 128 h.waiting b (o + 1308)
-            (λ len-waiting. move ! (9 ∷ []) $
-            tells-length ! full_share u32 128 h.waiting_numbers b (o + 1820)
-            (λ len-waiting-numbers. move ! (6 ∷ []) $
+            move ! (4 ∷ []) $ tells_length ! full_share u32 128 h.queued b (o + 124)
+            (λ len_queued. move ! (5 ∷ []) $
+            tells_length ! full_share u32 32 h.outstanding b (o + 636)
+            (λ len_outstanding. move ! (6 ∷ []) $
+            tells_length ! full_share u8 32 h.transmissions b (o + 764)
+            (λ len_transmissions. move ! (7 ∷ []) $
+            tells_length ! full_share u32 128 h.ready b (o + 796)
+            (λ len_ready. move ! (8 ∷ []) $
+            tells_length ! full_share u32 128 h.waiting b (o + 1308)
+            (λ len_waiting. move ! (9 ∷ []) $
+            tells_length ! full_share u32 128 h.waiting_numbers b (o + 1820)
+            (λ len_waiting_numbers. move ! (6 ∷ []) $
             cell_out ! full_share settings-row.the_row (LL.vals settings-row.the_type settings-laws.the_laws)
-            (LL.tells settings-row.the_type settings-laws.the_laws) h.settings b (o + 0) (λ was-settings.
+            (LL.tells settings-row.the_type settings-laws.the_laws) h.settings b (o + 0) (λ was_settings.
             assigns ! {v = (only ((LL.vals settings-row.the_type settings-laws.the_laws) h.settings))}
-            (of_opd ! (load ! (place-settings ! (look ! 12 refl)) (look_raw ! 0 refl))) (from ! (stop !))
+            (of_opd ! (load ! (place_settings ! (look ! 12 refl)) (look_raw ! 0 refl))) (from ! (stop !))
             (init ! 17 refl ((LL.lawful settings-row.the_type settings-laws.the_laws 𝓛).typed h.settings
-            ((only ((LL.vals settings-row.the_type settings-laws.the_laws) h.settings)) ∷ []) was-settings).0) $
+            ((only ((LL.vals settings-row.the_type settings-laws.the_laws) h.settings)) ∷ []) was_settings).0) $
             cell_in ! full_share settings-row.the_row (LL.makes settings-row.the_type settings-laws.the_plain 𝓛) h.settings b (o + 0)
-            (only ((LL.vals settings-row.the_type settings-laws.the_laws) h.settings)) was-settings $ move ! (7 ∷ []) $
+            (only ((LL.vals settings-row.the_type settings-laws.the_laws) h.settings)) was_settings $ move ! (7 ∷ []) $
             cell_out ! full_share flight-row.the_row (LL.vals flight-row.the_type flight-laws.the_laws)
-            (LL.tells flight-row.the_type flight-laws.the_laws) h.flight b (o + 16) (λ was-flight.
+            (LL.tells flight-row.the_type flight-laws.the_laws) h.flight b (o + 16) (λ was_flight.
             assigns ! {v = (only ((LL.vals flight-row.the_type flight-laws.the_laws) h.flight))}
-            (of_opd ! (load ! (place-flight ! (look ! 12 refl)) (look_raw ! 0 refl))) (from ! (stop !))
+            (of_opd ! (load ! (place_flight ! (look ! 12 refl)) (look_raw ! 0 refl))) (from ! (stop !))
             (init ! 16 refl ((LL.lawful flight-row.the_type flight-laws.the_laws 𝓛).typed h.flight
-            ((only ((LL.vals flight-row.the_type flight-laws.the_laws) h.flight)) ∷ []) was-flight).0) $
+            ((only ((LL.vals flight-row.the_type flight-laws.the_laws) h.flight)) ∷ []) was_flight).0) $
             cell_in ! full_share flight-row.the_row (LL.makes flight-row.the_type flight-laws.the_plain 𝓛) h.flight b (o + 16)
-            (only ((LL.vals flight-row.the_type flight-laws.the_laws) h.flight)) was-flight $ move ! (8 ∷ []) $
+            (only ((LL.vals flight-row.the_type flight-laws.the_laws) h.flight)) was_flight $ move ! (8 ∷ []) $
             cell_out ! full_share arrival-row.the_row (LL.vals arrival-row.the_type arrival-laws.the_laws)
-            (LL.tells arrival-row.the_type arrival-laws.the_laws) h.arrival b (o + 72) (λ was-arrival.
+            (LL.tells arrival-row.the_type arrival-laws.the_laws) h.arrival b (o + 72) (λ was_arrival.
             assigns ! {v = (only ((LL.vals arrival-row.the_type arrival-laws.the_laws) h.arrival))}
-            (of_opd ! (load ! (place-arrival ! (look ! 12 refl)) (look_raw ! 0 refl))) (from ! (stop !))
+            (of_opd ! (load ! (place_arrival ! (look ! 12 refl)) (look_raw ! 0 refl))) (from ! (stop !))
             (init ! 15 refl ((LL.lawful arrival-row.the_type arrival-laws.the_laws 𝓛).typed h.arrival
-            ((only ((LL.vals arrival-row.the_type arrival-laws.the_laws) h.arrival)) ∷ []) was-arrival).0) $
+            ((only ((LL.vals arrival-row.the_type arrival-laws.the_laws) h.arrival)) ∷ []) was_arrival).0) $
             cell_in ! full_share arrival-row.the_row (LL.makes arrival-row.the_type arrival-laws.the_plain 𝓛) h.arrival b (o + 72)
-            (only ((LL.vals arrival-row.the_type arrival-laws.the_laws) h.arrival)) was-arrival $ move ! (9 ∷ []) $
+            (only ((LL.vals arrival-row.the_type arrival-laws.the_laws) h.arrival)) was_arrival $ move ! (9 ∷ []) $
             cell_out ! full_share clock-row.the_row (LL.vals clock-row.the_type clock-laws.the_laws)
-            (LL.tells clock-row.the_type clock-laws.the_laws) h.clock b (o + 104) (λ was-clock.
+            (LL.tells clock-row.the_type clock-laws.the_laws) h.clock b (o + 104) (λ was_clock.
             assigns ! {v = (only ((LL.vals clock-row.the_type clock-laws.the_laws) h.clock))}
-            (of_opd ! (load ! (place-clock ! (look ! 12 refl)) (look_raw ! 0 refl))) (from ! (stop !))
+            (of_opd ! (load ! (place_clock ! (look ! 12 refl)) (look_raw ! 0 refl))) (from ! (stop !))
             (init ! 14 refl ((LL.lawful clock-row.the_type clock-laws.the_laws 𝓛).typed h.clock
-            ((only ((LL.vals clock-row.the_type clock-laws.the_laws) h.clock)) ∷ []) was-clock).0) $
+            ((only ((LL.vals clock-row.the_type clock-laws.the_laws) h.clock)) ∷ []) was_clock).0) $
             cell_in ! full_share clock-row.the_row (LL.makes clock-row.the_type clock-laws.the_plain 𝓛) h.clock b (o + 104)
-            (only ((LL.vals clock-row.the_type clock-laws.the_laws) h.clock)) was-clock $ nothing ! $
-            calls-fn ! fm count_of.ended (count_of.clauses 𝓛 at_mem run) known.3
+            (only ((LL.vals clock-row.the_type clock-laws.the_laws) h.clock)) was_clock $ nothing ! $
+            calls_fn ! fm count_of.ended (count_of.clauses 𝓛 at_mem run) known.3
             ((tt, tt, tt, (h.flight, tt), ((only ((LL.vals flight-row.the_type flight-laws.the_laws) h.flight)) ∷ [], tt)), tt)
             (λ n _. n ≡ h.flight.outstanding)
             (‵ ftrue) (plainly 𝓛 (flight-row.the_row ∷ []) ((LL.makes flight-row.the_type flight-laws.the_plain 𝓛), tt)
-            (h.flight, tt) ((only ((LL.vals flight-row.the_type flight-laws.the_laws) h.flight)) ∷ [], tt) (was-flight, tt))
+            (h.flight, tt) ((only ((LL.vals flight-row.the_type flight-laws.the_laws) h.flight)) ∷ [], tt) (was_flight, tt))
             (λ n _. id⊢ 𝓤 _)
             (and_then ! (load ! (from ! (stop !)) (look ! 17 refl)) (no_more !))
-            (λ n w-n _ e-n is-n. drop ! $ drop ! $ land ! (from ! (stop !)) (init ! 13 refl ((uint_Lawful 𝓛 w64).typed n _ is-n).0) $
+            (λ n w_n _ e_n is_n. drop ! $ drop ! $ land ! (from ! (stop !)) (init ! 13 refl ((uint_Lawful 𝓛 w64).typed n _ is_n).0) $
             same ! (on (
-              len-queued,
-              len-outstanding,
-              len-transmissions,
-              len-ready,
-              len-waiting,
-              len-waiting-numbers,
-              was-settings,
-              was-flight,
-              was-arrival,
-              was-clock,
+              len_queued,
+              len_outstanding,
+              len_transmissions,
+              len_ready,
+              len_waiting,
+              len_waiting_numbers,
+              was_settings,
+              was_flight,
+              was_arrival,
+              was_clock,
               n,
-              w-n,
-              e-n,
-              is-n,
+              w_n,
+              e_n,
+              is_n,
             )))))))))))));
       }
 
@@ -961,7 +961,7 @@ module _ {M : Type 1} {𝓤 : Ura M} (𝓛 : Logic 𝓤) (at_mem : Memory → SP
       Known₅ = Unit {0}
 
       abbrev New₅ : Known₅ → Type 0
-      New₅ past = (found : (List ℕ)) × (w-found : Val) × (e-found : found ≡ replicate 128 0) × (Is (Array u32 128) found (w-found ∷ []))
+      New₅ past = (found : (List ℕ)) × (w_found : Val) × (e_found : found ≡ replicate 128 0) × (Is (Array u32 128) found (w_found ∷ []))
 
       abbrev Has₅ : (ℕ → ℕ) → Known₅ → List (Item 𝓤) → List (Item 𝓤)
       Has₅ p past Γ = ‵ (froom (ty_array (ty_int w32) 128) (p 30) 0) ∷ Γ
@@ -975,25 +975,25 @@ module _ {M : Type 1} {𝓤 : Ura M} (𝓛 : Logic 𝓤) (at_mem : Memory → SP
       part₅ {Γ = Γ} t p past on = record {
         prf =
             qed 𝓛 (Has₅ p past Γ) ∵ exec ! C Λ (En p) (behind 13 (code.function).body) (at_ret (En p) Post) $
-            nothing ! $ calls-fn ! fm none_of.ended (none_of.clauses 𝓛 at_mem run) known.4 ((tt, tt, tt, tt, tt), tt)
+            nothing ! $ calls_fn ! fm none_of.ended (none_of.clauses 𝓛 at_mem run) known.4 ((tt, tt, tt, tt, tt), tt)
             (λ found _. found ≡ replicate 128 0)
             (‵ ftrue) (plainly 𝓛 ([]) tt tt tt tt) (λ found _. id⊢ 𝓤 _)
-            (no_more !) (λ found w-found _ e-found is_found. drop ! $ drop ! $
-            land ! (from ! (stop !)) (init ! 0 refl (Array-Typed u32 (uint_Lawful 𝓛 w32).typed 128 found (w-found ∷ []) is_found
+            (no_more !) (λ found w_found _ e_found is_found. drop ! $ drop ! $
+            land ! (from ! (stop !)) (init ! 0 refl (Array-Typed u32 (uint_Lawful 𝓛 w32).typed 128 found (w_found ∷ []) is_found
             ).0) $
-            same ! (on (found, w-found, e-found, is_found)));
+            same ! (on (found, w_found, e_found, is_found)));
       }
 
       -- part 6: what it knows, what it tells; what it has, and leaves
       abbrev Known₆ : Type 0
-      Known₆ = (len-outstanding : length h.outstanding ≡ 32) × (n : ℕ) × (w-n : Val) × (is-n : Is usize n (w-n ∷ [])) ×
-          (found : (List ℕ)) × (w-found : Val) × (e-found : found ≡ replicate 128 0) × (Is (Array u32 128) found (w-found ∷ []))
+      Known₆ = (len_outstanding : length h.outstanding ≡ 32) × (n : ℕ) × (w_n : Val) × (is_n : Is usize n (w_n ∷ [])) ×
+          (found : (List ℕ)) × (w_found : Val) × (e_found : found ≡ replicate 128 0) × (Is (Array u32 128) found (w_found ∷ []))
 
       abbrev New₆ : Known₆ → Type 0
-      New₆ past = (z-found : List ℕ) × (β₃ : ℕ) × (β-name₃ : GName) × (w-g : Val) ×
-          (e-g : (length z-found ≡ 128) × (recordsIn z-found ≡ padded
-          (gathered (take sendSlots x₃.now) (slotsIn h.outstanding past.1)))) ×
-          (Is (Array u32 128) z-found ((array_vals (uint_vals w32)) z-found))
+      New₆ past = (z_found : List ℕ) × (β₃ : ℕ) × (β_name₃ : GName) × (w_g : Val) ×
+          (e_g : (length z_found ≡ 128) × (records_in z_found ≡ padded
+          (gathered (take send_slots x₃.now) (slots_in h.outstanding past.1)))) ×
+          (Is (Array u32 128) z_found ((array_vals (uint_vals w32)) z_found))
 
       abbrev Has₆ : (ℕ → ℕ) → Known₆ → List (Item 𝓤) → List (Item 𝓤)
       Has₆ p past Γ = ‵ (fat full_share (ty_array (ty_int w32) 128) (p 30) 0 (past.5))
@@ -1034,51 +1034,51 @@ module _ {M : Type 1} {𝓤 : Ura M} (𝓛 : Logic 𝓤) (at_mem : Memory → SP
             assigns ! {v = s₃} (agg ! (and_then ! (load ! (from ! (stop !)) (look ! 9 refl))
             (and_then ! (load ! (from ! (fld ! refl (stop !))) (look_in ! 12 (sub ! 1 refl (whole !)))) (no_more !)))) (from ! (stop !))
             (init ! 8 refl (tt, (tt, (record { fits = room₃.0 }, tt)))) $
-            assigns ! {v = (vptr b (o + 636))} (addr ! (place-outstanding ! (look ! 2 refl))) (from ! (stop !)) (init ! 7 refl (tt, tt)) $
+            assigns ! {v = (vptr b (o + 636))} (addr ! (place_outstanding ! (look ! 2 refl))) (from ! (stop !)) (init ! 7 refl (tt, tt)) $
             assigns ! {v = (vptr (p 18) 0)} (addr ! (from ! (stop !))) (from ! (stop !)) (init ! 6 refl (tt, tt)) $
-            move ! (1 ∷ []) $ lend-shr ! tt full_share (Array u32 32) h.outstanding b (o + 636)
-            (λ α-outstanding δ-outstanding. move ! (13 ∷ []) $
+            move ! (1 ∷ []) $ lend_shr ! tt full_share (Array u32 32) h.outstanding b (o + 636)
+            (λ α_outstanding δ_outstanding. move ! (13 ∷ []) $
             use1 𝓛 (‵ (cell_at full_share ((ty_array (ty_int w32) 128) ∷ []) (past.5 ∷ []) (p 18) 0))
             (𝓛.laws.at_raw full_share (ty_array (ty_int w32) 128) (p 18) 0 past.5) $
             cell_in ! full_share (Array u32 128) (Array-Makes 𝓛 u32 (uint_Makes 𝓛 w32) 128) past.4 (p 18) 0 past.5
             past.7 $
-            lend-mut ! tt (Array u32 128) past.4 (p 18) 0
-            (λ α-found δ-found. lft_new ! tt (λ β₃. move ! (11 ∷ 10 ∷ []) $
+            lend_mut ! tt (Array u32 128) past.4 (p 18) 0
+            (λ α_found δ_found. lft_new ! tt (λ β₃. move ! (11 ∷ 10 ∷ []) $
             use2 𝓛 (later (some (λ (δ : GName). ‵ (Shared₃ β₃ δ) ⊛ ‵
             (LentShared R κ₃ (β₃ ∷ []) q₃ x₃.ghost_name x₃.ref_ptr.0 x₃.ref_ptr.1 x₃.now))))
             (lends_shared R κ₃ (β₃ ∷ []) q₃ x₃.ghost_name x₃.ref_ptr.0 x₃.ref_ptr.1 x₃.now 𝓛) $ await ! tt $
-            pick ! (λ β-name₃. split ! $
+            pick ! (λ β_name₃. split ! $
             -- [shown3; blent3; btok3; tok:@found; own:@found; lent:@found; tok:outstanding; own:outstanding; lent:outstanding; the locals]
-            use1 𝓛 (‵ (Shared₃ β₃ β-name₃) ⊛ ‵ (Shared₃ β₃ β-name₃))
-            ((shr_slice_copy 𝓛 (named 0) (β₃ ∷ []) R).twice (shown-at₃ β-name₃) (s₃ ∷ [])) $ split ! $
+            use1 𝓛 (‵ (Shared₃ β₃ β_name₃) ⊛ ‵ (Shared₃ β₃ β_name₃))
+            ((shr_slice_copy 𝓛 (named 0) (β₃ ∷ []) R).twice (shown_at₃ β_name₃) (s₃ ∷ [])) $ split ! $
             move ! (3 ∷ 0 ∷ 7 ∷ 8 ∷ 4 ∷ 5 ∷ []) $ group ! 6 $
-            calls-fn ! fm gather.ended (gather.clauses 𝓛 at_mem run) known.5
-            (to-gather β₃ β-name₃ α-outstanding δ-outstanding h.outstanding (p 18) α-found δ-found past.4 past.1 past.2)
+            calls_fn ! fm gather.ended (gather.clauses 𝓛 at_mem run) known.5
+            (to_gather β₃ β_name₃ α_outstanding δ_outstanding h.outstanding (p 18) α_found δ_found past.4 past.1 past.2)
             (λ g ws-g. (length ws-g.1.1.1.0 ≡ 128) ×
-            (recordsIn ws-g.1.1.1.0 ≡ padded (gathered (take sendSlots x₃.now) (slotsIn h.outstanding past.1))))
-            (‵ (flft (β₃ ∷ []) full_share) ⊛ ‵ (Shared₃ β₃ β-name₃) ⊛ ‵ (flft (α-outstanding ∷ []) full_share) ⊛ ‵
-            ((ShrRef (named 0) (α-outstanding ∷ []) (Array u32 32)).own_val (ref-at b (o + 636) δ-outstanding h.outstanding)
-            ((vptr b (o + 636)) ∷ [])) ⊛ ‵ (flft (α-found ∷ []) full_share) ⊛ ‵
-            ((MutRef (named 0) (α-found ∷ []) (Array u32 128)).own_val (ref-at (p 18) 0 δ-found past.4) ((vptr (p 18) 0) ∷ [])))
-            (asks-gather β₃ β-name₃ α-outstanding δ-outstanding h.outstanding (p 18) α-found δ-found past.4 past.1 past.2
+            (records_in ws-g.1.1.1.0 ≡ padded (gathered (take send_slots x₃.now) (slots_in h.outstanding past.1))))
+            (‵ (flft (β₃ ∷ []) full_share) ⊛ ‵ (Shared₃ β₃ β_name₃) ⊛ ‵ (flft (α_outstanding ∷ []) full_share) ⊛ ‵
+            ((ShrRef (named 0) (α_outstanding ∷ []) (Array u32 32)).own_val (ref_at b (o + 636) δ_outstanding h.outstanding)
+            ((vptr b (o + 636)) ∷ [])) ⊛ ‵ (flft (α_found ∷ []) full_share) ⊛ ‵
+            ((MutRef (named 0) (α_found ∷ []) (Array u32 128)).own_val (ref_at (p 18) 0 δ_found past.4) ((vptr (p 18) 0) ∷ [])))
+            (asks_gather β₃ β_name₃ α_outstanding δ_outstanding h.outstanding (p 18) α_found δ_found past.4 past.1 past.2
             past.3 (past.0, past.6)) (λ g ws-g. id⊢ 𝓤 _)
             (and_then ! (load ! (from ! (stop !)) (look ! 10 refl))
             (and_then ! (load ! (from ! (stop !)) (look ! 9 refl))
             (and_then ! (load ! (from ! (stop !)) (look ! 7 refl)) (and_then ! (load ! (from ! (stop !)) (look ! 8 refl)) (no_more !)))))
-            (λ g w-g ws-g e-g is-g. land ! (from ! (stop !)) (init ! 13 refl ((Nothing-Lawful 𝓛).typed g _ is-g).0) $
-            spread 𝓛 (‵ (flft (β₃ ∷ []) full_share)) (‵ (flft (α-outstanding ∷ []) full_share) ∷ ‵ (flft (α-found ∷ []) full_share)
+            (λ g w_g ws-g e_g is-g. land ! (from ! (stop !)) (init ! 13 refl ((Nothing-Lawful 𝓛).typed g _ is-g).0) $
+            spread 𝓛 (‵ (flft (β₃ ∷ []) full_share)) (‵ (flft (α_outstanding ∷ []) full_share) ∷ ‵ (flft (α_found ∷ []) full_share)
             ∷ ‵ ftrue
             ∷ []) (id⊢ 𝓤 _) $ move ! (4 ∷ []) $
-            spread 𝓛 (‵ ftrue) (‵ ftrue ∷ ‵ ftrue ∷ ‵ (fres δ-found ((Array u32 128).coded.code ws-g.1.1.1.0)) ∷ ‵ ftrue ∷ [])
+            spread 𝓛 (‵ ftrue) (‵ ftrue ∷ ‵ ftrue ∷ ‵ (fres δ_found ((Array u32 128).coded.code ws-g.1.1.1.0)) ∷ ‵ ftrue ∷ [])
             (id⊢ 𝓤 _) $ move ! (8 ∷ 4 ∷ 0 ∷ 1 ∷ 2 ∷ []) $ group ! 5 $ drop ! $
             -- [fin:@found; btok3; tok:outstanding; tok:@found; shown3; blent3; lent:@found; lent:outstanding; the locals]
             move ! (2 ∷ 7 ∷ []) $ back_shr ! tt full_share (Array u32 32) b (o + 636) h.outstanding $ move ! (3 ∷ 6 ∷ 1 ∷ []) $
-            back-mut ! tt (Array u32 128) (p 18) 0 ws-g.1.1.1.0 $
+            back_mut ! tt (Array u32 128) (p 18) 0 ws-g.1.1.1.0 $
             cell_out ! full_share (Array u32 128) (array_vals (uint_vals w32)) (Array-Tells u32 (uint_vals w32) (uint_Tells w32) 128)
-            ws-g.1.1.1.0 (p 18) 0 (λ was-found-3. use1 𝓛
+            ws-g.1.1.1.0 (p 18) 0 (λ was_found_3. use1 𝓛
             (‵ (fat full_share (ty_array (ty_int w32) 128) (p 18) 0 (only ((array_vals (uint_vals w32)) ws-g.1.1.1.0))))
             (𝓛.laws.raw_at full_share (ty_array (ty_int w32) 128) (p 18) 0 (only ((array_vals (uint_vals w32)) ws-g.1.1.1.0))) $
-            same ! (on (ws-g.1.1.1.0, β₃, β-name₃, w-g, e-g, was-found-3))))))));
+            same ! (on (ws-g.1.1.1.0, β₃, β_name₃, w_g, e_g, was_found_3))))))));
       }
 
       -- part 7: what it knows, what it tells; what it has, and leaves
@@ -1086,7 +1086,7 @@ module _ {M : Type 1} {𝓤 : Ura M} (𝓛 : Logic 𝓤) (at_mem : Memory → SP
       Known₇ = (β₃ : ℕ) × (GName)
 
       abbrev New₇ : Known₇ → Type 0
-      New₇ past = (m : ℕ) × (w-m : Val) × (e-m : m ≡ length x₃.now) × (Is usize m (w-m ∷ []))
+      New₇ past = (m : ℕ) × (w_m : Val) × (e_m : m ≡ length x₃.now) × (Is usize m (w_m ∷ []))
 
       abbrev Has₇ : (ℕ → ℕ) → Known₇ → List (Item 𝓤) → List (Item 𝓤)
       Has₇ p past Γ = ‵ (flft (past.0 ∷ []) full_share) ∷ ‵ (Shared₃ past.0 past.1)
@@ -1113,15 +1113,15 @@ module _ {M : Type 1} {𝓤 : Ura M} (𝓛 : Logic 𝓤) (at_mem : Memory → SP
             assigns ! {v = s₃} (agg ! (and_then ! (load ! (from ! (stop !)) (look ! 4 refl))
             (and_then ! (load ! (from ! (fld ! refl (stop !))) (look_in ! 2 (sub ! 1 refl (whole !)))) (no_more !)))) (from ! (stop !))
             (init ! 3 refl (tt, (tt, (record { fits = room₃.0 }, tt)))) $
-            join ! $ calls-fn ! fm table-len.ended (table-len.clauses 𝓛 at_mem run) known.6 (to-table-len past.0 past.1)
+            join ! $ calls_fn ! fm table-len.ended (table-len.clauses 𝓛 at_mem run) known.6 (to_table_len past.0 past.1)
             (λ m ws-m. m ≡ length x₃.now) (‵ (flft (past.0 ∷ []) full_share) ⊛ ‵ (Shared₃ past.0 past.1))
-            (asks-table-len past.0 past.1) (λ m ws-m. id⊢ 𝓤 _)
+            (asks_table_len past.0 past.1) (λ m ws-m. id⊢ 𝓤 _)
             (and_then ! (load ! (from ! (stop !)) (look ! 2 refl)) (no_more !))
-            (λ m w-m ws-m e-m is_m. land ! (from ! (stop !)) (init ! 5 refl ((uint_Lawful 𝓛 w64).typed m _ is_m).0) $
+            (λ m w_m ws-m e_m is_m. land ! (from ! (stop !)) (init ! 5 refl ((uint_Lawful 𝓛 w64).typed m _ is_m).0) $
             spread 𝓛 (‵ (flft (past.0 ∷ []) full_share)) (‵ ftrue ∷ []) (id⊢ 𝓤 _) $ move ! (2 ∷ []) $
             spread 𝓛 (‵ ftrue) (‵ ftrue ∷ []) (id⊢ 𝓤 _) $ move ! (3 ∷ 1 ∷ 0 ∷ []) $ group ! 3 $ drop ! $
             -- [btok3; the locals]
-            same ! (on (m, w-m, e-m, is_m)));
+            same ! (on (m, w_m, e_m, is_m)));
       }
 
       -- part 8: what it knows, what it tells; what it has, and leaves
@@ -1155,27 +1155,27 @@ module _ {M : Type 1} {𝓤 : Ura M} (𝓛 : Logic 𝓤) (at_mem : Memory → SP
 
       -- part 9: what it knows, what it tells; what it has, and leaves
       abbrev Known₉ : Type 0
-      Known₉ = (z-found : List ℕ) × (z-receives : List ℕ) × (z-sends : List ℕ) × (ok : Bool) × (w-ok : Val) ×
-          (e-ok : Sound h z-sends z-receives ok) × (is_ok : Is Boolean ok (w-ok ∷ [])) × (len-queued : length h.queued ≡ 128) ×
-          (len-outstanding : length h.outstanding ≡ 32) × (len-transmissions : length h.transmissions ≡ 32) ×
-          (len-ready : length h.ready ≡ 128) × (len-waiting : length h.waiting ≡ 128) ×
-          (len-waiting-numbers : length h.waiting_numbers ≡ 128) ×
-          (was-settings : Is settings-row.the_row h.settings ((LL.vals settings-row.the_type settings-laws.the_laws) h.settings)) ×
-          (was-flight : Is flight-row.the_row h.flight ((LL.vals flight-row.the_type flight-laws.the_laws) h.flight)) ×
-          (was-arrival : Is arrival-row.the_row h.arrival ((LL.vals arrival-row.the_type arrival-laws.the_laws) h.arrival)) ×
-          (was-clock : Is clock-row.the_row h.clock ((LL.vals clock-row.the_type clock-laws.the_laws) h.clock)) × (n : ℕ) ×
-          (e-g : (length z-found ≡ 128) × (recordsIn z-found ≡ padded (gathered (take sendSlots x₃.now) (slotsIn h.outstanding n)))) ×
-          (was-found-3 : Is (Array u32 128) z-found ((array_vals (uint_vals w32)) z-found)) × (m : ℕ) × (w-m : Val) ×
-          (Is usize m (w-m ∷ []))
+      Known₉ = (z_found : List ℕ) × (z_receives : List ℕ) × (z_sends : List ℕ) × (ok : Bool) × (w_ok : Val) ×
+          (e_ok : Sound h z_sends z_receives ok) × (is_ok : Is Boolean ok (w_ok ∷ [])) × (len_queued : length h.queued ≡ 128) ×
+          (len_outstanding : length h.outstanding ≡ 32) × (len_transmissions : length h.transmissions ≡ 32) ×
+          (len_ready : length h.ready ≡ 128) × (len_waiting : length h.waiting ≡ 128) ×
+          (len_waiting_numbers : length h.waiting_numbers ≡ 128) ×
+          (was_settings : Is settings-row.the_row h.settings ((LL.vals settings-row.the_type settings-laws.the_laws) h.settings)) ×
+          (was_flight : Is flight-row.the_row h.flight ((LL.vals flight-row.the_type flight-laws.the_laws) h.flight)) ×
+          (was_arrival : Is arrival-row.the_row h.arrival ((LL.vals arrival-row.the_type arrival-laws.the_laws) h.arrival)) ×
+          (was_clock : Is clock-row.the_row h.clock ((LL.vals clock-row.the_type clock-laws.the_laws) h.clock)) × (n : ℕ) ×
+          (e_g : (length z_found ≡ 128) × (records_in z_found ≡ padded (gathered (take send_slots x₃.now) (slots_in h.outstanding n)))) ×
+          (was_found_3 : Is (Array u32 128) z_found ((array_vals (uint_vals w32)) z_found)) × (m : ℕ) × (w_m : Val) ×
+          (Is usize m (w_m ∷ []))
 
       abbrev New₉ : Known₉ → Type 0
-      New₉ past = (z₈ : List ℕ) × (z₇ : List ℕ) × (z-found' : List ℕ) × (z-transmissions : List ℕ) × (z-outstanding : List ℕ) ×
-          (z-queued : List ℕ) × (a : Flushed) × (w-a : Val) ×
-          (e-a : (Core x₅ h (recordsIn past.0) past.20 x₁.now x₂.now x₄.now x₆ x₇.now x₈.now a
+      New₉ past = (z₈ : List ℕ) × (z₇ : List ℕ) × (z_found' : List ℕ) × (z_transmissions : List ℕ) × (z_outstanding : List ℕ) ×
+          (z_queued : List ℕ) × (a : Flushed) × (w_a : Val) ×
+          (e_a : (Core x₅ h (records_in past.0) past.20 x₁.now x₂.now x₄.now x₆ x₇.now x₈.now a
           (link_of h.settings a.flight a.arrival a.clock
-          (arrays z-queued z-outstanding z-transmissions h.ready h.waiting h.waiting_numbers)) (recordsIn z-found') z₇ z₈) ×
-          (length z-found' ≡ 128)) × (is-a : Is flushed-row.the_row a (w-a ∷ [])) × (len₇ : length z₇ ≡ length x₇.now) ×
-          (len₈ : length z₈ ≡ length x₈.now) × (Is (Array u32 128) z-found' ((array_vals (uint_vals w32)) z-found'))
+          (arrays z_queued z_outstanding z_transmissions h.ready h.waiting h.waiting_numbers)) (records_in z_found') z₇ z₈) ×
+          (length z_found' ≡ 128)) × (is_a : Is flushed-row.the_row a (w_a ∷ [])) × (len₇ : length z₇ ≡ length x₇.now) ×
+          (len₈ : length z₈ ≡ length x₈.now) × (Is (Array u32 128) z_found' ((array_vals (uint_vals w32)) z_found'))
 
       abbrev Has₉ : (ℕ → ℕ) → Known₉ → List (Item 𝓤) → List (Item 𝓤)
       Has₉ p past Γ = ‵ (fat full_share (ty_ref erased mut (ty_array (ty_int w32) 128)) (p 38) 0 ((vptr (p 18) 0)))
@@ -1242,13 +1242,13 @@ module _ {M : Type 1} {𝓤 : Ura M} (𝓛 : Logic 𝓤) (at_mem : Memory → SP
       part₉ {Γ = Γ} t p past on = record {
         prf =
             qed 𝓛 (Has₉ p past Γ) ∵ exec ! C Λ (En p) (behind 24 (code.function).body) (at_ret (En p) Post) $
-            assigns ! {v = (vptr b (o + 124))} (addr ! (place-queued ! (look ! 4 refl))) (from ! (stop !)) (init ! 34 refl (tt, tt)) $
-            assigns ! {v = (vptr b (o + 636))} (addr ! (place-outstanding ! (look ! 4 refl))) (from ! (stop !)) (init ! 33 refl (tt, tt)) $
-            assigns ! {v = (vptr b (o + 764))} (addr ! (place-transmissions ! (look ! 4 refl))) (from ! (stop !))
+            assigns ! {v = (vptr b (o + 124))} (addr ! (place_queued ! (look ! 4 refl))) (from ! (stop !)) (init ! 34 refl (tt, tt)) $
+            assigns ! {v = (vptr b (o + 636))} (addr ! (place_outstanding ! (look ! 4 refl))) (from ! (stop !)) (init ! 33 refl (tt, tt)) $
+            assigns ! {v = (vptr b (o + 764))} (addr ! (place_transmissions ! (look ! 4 refl))) (from ! (stop !))
             (init ! 32 refl (tt, tt)) $
-            assigns ! {v = (vptr b (o + 796))} (addr ! (place-ready ! (look ! 4 refl))) (from ! (stop !)) (init ! 31 refl (tt, tt)) $
-            assigns ! {v = (vptr b (o + 1308))} (addr ! (place-waiting ! (look ! 4 refl))) (from ! (stop !)) (init ! 30 refl (tt, tt)) $
-            assigns ! {v = (vptr b (o + 1820))} (addr ! (place-waiting-numbers ! (look ! 4 refl))) (from ! (stop !))
+            assigns ! {v = (vptr b (o + 796))} (addr ! (place_ready ! (look ! 4 refl))) (from ! (stop !)) (init ! 31 refl (tt, tt)) $
+            assigns ! {v = (vptr b (o + 1308))} (addr ! (place_waiting ! (look ! 4 refl))) (from ! (stop !)) (init ! 30 refl (tt, tt)) $
+            assigns ! {v = (vptr b (o + 1820))} (addr ! (place_waiting_numbers ! (look ! 4 refl))) (from ! (stop !))
             (init ! 29 refl (tt, tt)) $
             assigns ! {v = (vptr x₇.ptr.0 x₇.ptr.1)}
             (addr ! (from ! (fld ! refl (hop ! (look_in ! 37 (sub ! 0 refl (whole !))) (stop !))))) (from ! (stop !))
@@ -1267,63 +1267,63 @@ module _ {M : Type 1} {𝓤 : Ura M} (𝓛 : Logic 𝓤) (at_mem : Memory → SP
             (𝓛.laws.at_raw full_share (ty_array (ty_int w32) 128) (p 18) 0 (only ((array_vals (uint_vals w32)) past.0))) $
             cell_in ! full_share (Array u32 128) (Array-Makes 𝓛 u32 (uint_Makes 𝓛 w32) 128) past.0 (p 18) 0
             (only ((array_vals (uint_vals w32)) past.0)) past.19 $
-            lend-mut ! tt (Array u32 128) past.0 (p 18) 0
+            lend_mut ! tt (Array u32 128) past.0 (p 18) 0
             (λ α-found' δ-found'. move ! (11 ∷ []) $
-            lend-mut ! tt (Array u32 128) h.queued b (o + 124)
-            (λ α-queued δ-queued. move ! (8 ∷ []) $
-            lend-mut ! tt (Array u32 32) h.outstanding b (o + 636)
+            lend_mut ! tt (Array u32 128) h.queued b (o + 124)
+            (λ α_queued δ_queued. move ! (8 ∷ []) $
+            lend_mut ! tt (Array u32 32) h.outstanding b (o + 636)
             (λ α-outstanding' δ-outstanding'. move ! (15 ∷ []) $
-            lend-mut ! tt (Array u8 32) h.transmissions b (o + 764)
-            (λ α-transmissions δ-transmissions. move ! (17 ∷ []) $
-            lend-shr ! tt full_share (Array u32 128) h.ready b (o + 796)
-            (λ α-ready δ-ready. move ! (19 ∷ []) $
-            lend-shr ! tt full_share (Array u32 128) h.waiting b (o + 1308)
-            (λ α-waiting δ-waiting. move ! (21 ∷ []) $
-            lend-shr ! tt full_share (Array u32 128) h.waiting_numbers b (o + 1820)
-            (λ α-waiting-numbers δ-waiting-numbers. move ! (18 ∷ 19 ∷ 15 ∷ 16 ∷ 12 ∷ 13 ∷ 9 ∷ 10 ∷ 6 ∷ 7 ∷ 3 ∷ 4 ∷ 0 ∷ 1 ∷ 29
+            lend_mut ! tt (Array u8 32) h.transmissions b (o + 764)
+            (λ α_transmissions δ_transmissions. move ! (17 ∷ []) $
+            lend_shr ! tt full_share (Array u32 128) h.ready b (o + 796)
+            (λ α_ready δ_ready. move ! (19 ∷ []) $
+            lend_shr ! tt full_share (Array u32 128) h.waiting b (o + 1308)
+            (λ α_waiting δ_waiting. move ! (21 ∷ []) $
+            lend_shr ! tt full_share (Array u32 128) h.waiting_numbers b (o + 1820)
+            (λ α_waiting_numbers δ_waiting_numbers. move ! (18 ∷ 19 ∷ 15 ∷ 16 ∷ 12 ∷ 13 ∷ 9 ∷ 10 ∷ 6 ∷ 7 ∷ 3 ∷ 4 ∷ 0 ∷ 1 ∷ 29
             ∷ 34 ∷ 30 ∷ 35 ∷ 31 ∷ 36 ∷ 32 ∷ 37 ∷ 33 ∷ 38 ∷ []) $ group ! 24 $
-            calls-fn ! fm core.ended (core.clauses 𝓛 at_mem run) known.7
-            (to-core (p 18) α-found' δ-found' past.0 α-queued δ-queued h.queued α-outstanding' δ-outstanding' h.outstanding
-            α-transmissions δ-transmissions h.transmissions α-ready δ-ready h.ready α-waiting δ-waiting h.waiting
-            α-waiting-numbers δ-waiting-numbers h.waiting_numbers h.settings
+            calls_fn ! fm core.ended (core.clauses 𝓛 at_mem run) known.7
+            (to_core (p 18) α-found' δ-found' past.0 α_queued δ_queued h.queued α-outstanding' δ-outstanding' h.outstanding
+            α_transmissions δ_transmissions h.transmissions α_ready δ_ready h.ready α_waiting δ_waiting h.waiting
+            α_waiting_numbers δ_waiting_numbers h.waiting_numbers h.settings
             (only ((LL.vals settings-row.the_type settings-laws.the_laws) h.settings)) h.flight
             (only ((LL.vals flight-row.the_type flight-laws.the_laws) h.flight)) h.arrival
             (only ((LL.vals arrival-row.the_type arrival-laws.the_laws) h.arrival)) h.clock
             (only ((LL.vals clock-row.the_type clock-laws.the_laws) h.clock)) past.3 past.4 past.20 past.21 x₅ v₅ x₆ v₆)
-            (λ a ws-a. (Core x₅ h (recordsIn past.0) past.20 x₁.now x₂.now x₄.now x₆ x₇.now x₈.now a
+            (λ a ws-a. (Core x₅ h (records_in past.0) past.20 x₁.now x₂.now x₄.now x₆ x₇.now x₈.now a
             (link_of h.settings a.flight a.arrival a.clock
             (arrays ws-a.1.1.1.1.1.1.1.1.0 ws-a.1.1.1.1.1.1.1.1.1.0 ws-a.1.1.1.1.1.1.1.1.1.1.0
-            h.ready h.waiting h.waiting_numbers)) (recordsIn ws-a.1.1.1.1.1.0)
+            h.ready h.waiting h.waiting_numbers)) (records_in ws-a.1.1.1.1.1.0)
             ws-a.1.1.1.1.1.1.1.1.1.1.1.1.1.1.1.1.1.1.0
             ws-a.1.1.1.1.1.1.1.1.1.1.1.1.1.1.1.1.1.1.1.0) × (length ws-a.1.1.1.1.1.0 ≡ 128))
             (‵ (flft (α-found' ∷ []) full_share) ⊛ ‵ ((MutRef (named 0) (α-found' ∷ []) (Array u32 128)).own_val
-            (ref-at (p 18) 0 δ-found' past.0) ((vptr (p 18) 0) ∷ [])) ⊛ ‵ (flft (α-queued ∷ []) full_share) ⊛ ‵
-            ((MutRef (named 0) (α-queued ∷ []) (Array u32 128)).own_val (ref-at b (o + 124) δ-queued h.queued) ((vptr b (o + 124)) ∷ [])) ⊛
+            (ref_at (p 18) 0 δ-found' past.0) ((vptr (p 18) 0) ∷ [])) ⊛ ‵ (flft (α_queued ∷ []) full_share) ⊛ ‵
+            ((MutRef (named 0) (α_queued ∷ []) (Array u32 128)).own_val (ref_at b (o + 124) δ_queued h.queued) ((vptr b (o + 124)) ∷ [])) ⊛
             ‵ (flft (α-outstanding' ∷ []) full_share) ⊛ ‵
-            ((MutRef (named 0) (α-outstanding' ∷ []) (Array u32 32)).own_val (ref-at b (o + 636) δ-outstanding' h.outstanding)
-            ((vptr b (o + 636)) ∷ [])) ⊛ ‵ (flft (α-transmissions ∷ []) full_share) ⊛ ‵
-            ((MutRef (named 0) (α-transmissions ∷ []) (Array u8 32)).own_val (ref-at b (o + 764) δ-transmissions h.transmissions)
-            ((vptr b (o + 764)) ∷ [])) ⊛ ‵ (flft (α-ready ∷ []) full_share) ⊛ ‵
-            ((ShrRef (named 0) (α-ready ∷ []) (Array u32 128)).own_val (ref-at b (o + 796) δ-ready h.ready) ((vptr b (o + 796)) ∷ [])) ⊛ ‵
-            (flft (α-waiting ∷ []) full_share) ⊛ ‵ ((ShrRef (named 0) (α-waiting ∷ []) (Array u32 128)).own_val
-            (ref-at b (o + 1308) δ-waiting h.waiting) ((vptr b (o + 1308)) ∷ [])) ⊛ ‵ (flft (α-waiting-numbers ∷ []) full_share) ⊛ ‵
-            ((ShrRef (named 0) (α-waiting-numbers ∷ []) (Array u32 128)).own_val (ref-at b (o + 1820) δ-waiting-numbers h.waiting_numbers)
+            ((MutRef (named 0) (α-outstanding' ∷ []) (Array u32 32)).own_val (ref_at b (o + 636) δ-outstanding' h.outstanding)
+            ((vptr b (o + 636)) ∷ [])) ⊛ ‵ (flft (α_transmissions ∷ []) full_share) ⊛ ‵
+            ((MutRef (named 0) (α_transmissions ∷ []) (Array u8 32)).own_val (ref_at b (o + 764) δ_transmissions h.transmissions)
+            ((vptr b (o + 764)) ∷ [])) ⊛ ‵ (flft (α_ready ∷ []) full_share) ⊛ ‵
+            ((ShrRef (named 0) (α_ready ∷ []) (Array u32 128)).own_val (ref_at b (o + 796) δ_ready h.ready) ((vptr b (o + 796)) ∷ [])) ⊛ ‵
+            (flft (α_waiting ∷ []) full_share) ⊛ ‵ ((ShrRef (named 0) (α_waiting ∷ []) (Array u32 128)).own_val
+            (ref_at b (o + 1308) δ_waiting h.waiting) ((vptr b (o + 1308)) ∷ [])) ⊛ ‵ (flft (α_waiting_numbers ∷ []) full_share) ⊛ ‵
+            ((ShrRef (named 0) (α_waiting_numbers ∷ []) (Array u32 128)).own_val (ref_at b (o + 1820) δ_waiting_numbers h.waiting_numbers)
             ((vptr b (o + 1820)) ∷ [])) ⊛ ‵ (flft κ₁ q₁) ⊛ ‵ Own₁ ⊛ ‵ (flft κ₂ q₂) ⊛ ‵ Own₂ ⊛ ‵ (flft κ₄ q₄) ⊛ ‵
             Own₄ ⊛ ‵ (flft κ₅ q₅) ⊛ ‵ Own₇ ⊛ ‵ (flft κ₆ q₆) ⊛ ‵ Own₈)
-            (asks-core (p 18) α-found' δ-found' past.0 α-queued δ-queued h.queued α-outstanding' δ-outstanding' h.outstanding
-            α-transmissions δ-transmissions h.transmissions α-ready δ-ready h.ready α-waiting δ-waiting h.waiting α-waiting-numbers
-            δ-waiting-numbers h.waiting_numbers h.settings
+            (asks_core (p 18) α-found' δ-found' past.0 α_queued δ_queued h.queued α-outstanding' δ-outstanding' h.outstanding
+            α_transmissions δ_transmissions h.transmissions α_ready δ_ready h.ready α_waiting δ_waiting h.waiting α_waiting_numbers
+            δ_waiting_numbers h.waiting_numbers h.settings
             (only ((LL.vals settings-row.the_type settings-laws.the_laws) h.settings)) past.13 h.flight
             (only ((LL.vals flight-row.the_type flight-laws.the_laws) h.flight)) past.14 h.arrival
             (only ((LL.vals arrival-row.the_type arrival-laws.the_laws) h.arrival)) past.15 h.clock
             (only ((LL.vals clock-row.the_type clock-laws.the_laws) h.clock)) past.16 past.3 past.4 past.6 past.20
             past.21 past.22 x₅ v₅ g₅ x₆ v₆ g₆ (
               record {
-                whole-queued = past.7;
-                whole-outstanding = past.8;
-                whole-transmissions = past.9;
+                whole_queued = past.7;
+                whole_outstanding = past.8;
+                whole_transmissions = past.9;
                 whole_ready = past.10;
-                whole-waiting = past.11;
+                whole_waiting = past.11;
                 whole_numbers = past.12;
               },
               past.18.0,
@@ -1349,18 +1349,18 @@ module _ {M : Type 1} {𝓤 : Ura M} (𝓛 : Logic 𝓤) (at_mem : Memory → SP
             (and_then ! (load ! (from ! (stop !)) (look ! 29 refl))
             (and_then ! (load ! (from ! (stop !)) (look ! 18 refl))
             (and_then ! (load ! (from ! (stop !)) (look ! 16 refl)) (no_more !)))))))))))))))))))))
-            (λ a w-a ws-a e-a is-a. land ! (from ! (stop !))
-            (init ! 27 refl ((LL.lawful flushed-row.the_type flushed-laws.the_laws 𝓛).typed a (w-a ∷ []) is-a).0) $
+            (λ a w_a ws-a e_a is_a. land ! (from ! (stop !))
+            (init ! 27 refl ((LL.lawful flushed-row.the_type flushed-laws.the_laws 𝓛).typed a (w_a ∷ []) is_a).0) $
             spread 𝓛 (‵ (flft (α-found' ∷ []) full_share))
-            (‵ (flft (α-queued ∷ []) full_share) ∷ ‵ (flft (α-outstanding' ∷ []) full_share) ∷ ‵ (flft (α-transmissions ∷ []) full_share)
-            ∷ ‵ (flft (α-ready ∷ []) full_share) ∷ ‵ (flft (α-waiting ∷ []) full_share) ∷ ‵ (flft (α-waiting-numbers ∷ []) full_share)
+            (‵ (flft (α_queued ∷ []) full_share) ∷ ‵ (flft (α-outstanding' ∷ []) full_share) ∷ ‵ (flft (α_transmissions ∷ []) full_share)
+            ∷ ‵ (flft (α_ready ∷ []) full_share) ∷ ‵ (flft (α_waiting ∷ []) full_share) ∷ ‵ (flft (α_waiting_numbers ∷ []) full_share)
             ∷ ‵ (flft κ₁ q₁) ∷ ‵ (flft κ₂ q₂) ∷ ‵ (flft κ₄ q₄) ∷ ‵ (flft κ₅ q₅) ∷ ‵ (flft κ₆ q₆) ∷ ‵ ftrue
             ∷ []) (id⊢ 𝓤 _) $ move ! (13 ∷ []) $
             spread 𝓛 (‵ ftrue) (‵ ftrue ∷ ‵ ftrue ∷ ‵ ftrue ∷ ‵ ftrue
             ∷ ‵ (fres δ-found' ((Array u32 128).coded.code ws-a.1.1.1.1.1.0)) ∷ ‵ ftrue ∷ ‵ ftrue
-            ∷ ‵ (fres δ-queued ((Array u32 128).coded.code ws-a.1.1.1.1.1.1.1.1.0))
+            ∷ ‵ (fres δ_queued ((Array u32 128).coded.code ws-a.1.1.1.1.1.1.1.1.0))
             ∷ ‵ (fres δ-outstanding' ((Array u32 32).coded.code ws-a.1.1.1.1.1.1.1.1.1.0))
-            ∷ ‵ (fres δ-transmissions ((Array u8 32).coded.code ws-a.1.1.1.1.1.1.1.1.1.1.0)) ∷ ‵ ftrue ∷ ‵ ftrue ∷ ‵ ftrue
+            ∷ ‵ (fres δ_transmissions ((Array u8 32).coded.code ws-a.1.1.1.1.1.1.1.1.1.1.0)) ∷ ‵ ftrue ∷ ‵ ftrue ∷ ‵ ftrue
             ∷ ‵ ftrue ∷ ‵ ftrue ∷ ‵ ftrue ∷ ‵ ftrue
             ∷ ‵ (fsep (finally u8 x₇.name ws-a.1.1.1.1.1.1.1.1.1.1.1.1.1.1.1.1.1.1.0)
             (feq ℕ (length ws-a.1.1.1.1.1.1.1.1.1.1.1.1.1.1.1.1.1.1.0) (length x₇.now)))
@@ -1372,15 +1372,15 @@ module _ {M : Type 1} {𝓤 : Ura M} (𝓛 : Logic 𝓤) (at_mem : Memory → SP
             -- [fin8; fin7; fin:@found; fin:queued; fin:outstanding; fin:transmissions; tok:@found; tok:queued; tok:outstanding;
             -- tok:transmissions; tok:ready; tok:waiting; tok:«waiting_numbers»; tok1; tok2; tok4; tok7; tok8; lent:«waiting_numbers»;
             -- lent:waiting; lent:ready; lent:transmissions; lent:outstanding; lent:queued; lent:@found; the locals]
-            move ! (6 ∷ 24 ∷ 2 ∷ []) $ back-mut ! tt (Array u32 128) (p 18) 0 ws-a.1.1.1.1.1.0 $
+            move ! (6 ∷ 24 ∷ 2 ∷ []) $ back_mut ! tt (Array u32 128) (p 18) 0 ws-a.1.1.1.1.1.0 $
             cell_out ! full_share (Array u32 128) (array_vals (uint_vals w32)) (Array-Tells u32 (uint_vals w32) (uint_Tells w32) 128)
-            ws-a.1.1.1.1.1.0 (p 18) 0 (λ was-found-4. use1 𝓛
+            ws-a.1.1.1.1.1.0 (p 18) 0 (λ was_found_4. use1 𝓛
             (‵ (fat full_share (ty_array (ty_int w32) 128) (p 18) 0 (only ((array_vals (uint_vals w32)) ws-a.1.1.1.1.1.0))))
             (𝓛.laws.raw_at full_share (ty_array (ty_int w32) 128) (p 18) 0
             (only ((array_vals (uint_vals w32)) ws-a.1.1.1.1.1.0))) $
-            move ! (6 ∷ 22 ∷ 3 ∷ []) $ back-mut ! tt (Array u32 128) b (o + 124) ws-a.1.1.1.1.1.1.1.1.0 $
-            move ! (6 ∷ 20 ∷ 4 ∷ []) $ back-mut ! tt (Array u32 32) b (o + 636) ws-a.1.1.1.1.1.1.1.1.1.0 $
-            move ! (6 ∷ 18 ∷ 5 ∷ []) $ back-mut ! tt (Array u8 32) b (o + 764) ws-a.1.1.1.1.1.1.1.1.1.1.0 $
+            move ! (6 ∷ 22 ∷ 3 ∷ []) $ back_mut ! tt (Array u32 128) b (o + 124) ws-a.1.1.1.1.1.1.1.1.0 $
+            move ! (6 ∷ 20 ∷ 4 ∷ []) $ back_mut ! tt (Array u32 32) b (o + 636) ws-a.1.1.1.1.1.1.1.1.1.0 $
+            move ! (6 ∷ 18 ∷ 5 ∷ []) $ back_mut ! tt (Array u8 32) b (o + 764) ws-a.1.1.1.1.1.1.1.1.1.1.0 $
             move ! (6 ∷ 16 ∷ []) $ back_shr ! tt full_share (Array u32 128) b (o + 796) h.ready $ move ! (7 ∷ 15 ∷ []) $
             back_shr ! tt full_share (Array u32 128) b (o + 1308) h.waiting $ move ! (8 ∷ 14 ∷ []) $
             back_shr ! tt full_share (Array u32 128) b (o + 1820) h.waiting_numbers $
@@ -1392,21 +1392,21 @@ module _ {M : Type 1} {𝓤 : Ura M} (𝓛 : Logic 𝓤) (at_mem : Memory → SP
               ws-a.1.1.1.1.1.1.1.1.1.0,
               ws-a.1.1.1.1.1.1.1.1.0,
               a,
-              w-a,
-              e-a,
-              is-a,
+              w_a,
+              e_a,
+              is_a,
               len₇,
               len₈,
-              was-found-4,
+              was_found_4,
             )))))))))))));
       }
 
       -- part 10: what it knows, what it tells; what it has, and leaves
       abbrev Known₁₀ : Type 0
-      Known₁₀ = (a : Flushed) × (w-a : Val) × (Is flushed-row.the_row a (w-a ∷ []))
+      Known₁₀ = (a : Flushed) × (w_a : Val) × (Is flushed-row.the_row a (w_a ∷ []))
 
       abbrev New₁₀ : Known₁₀ → Type 0
-      New₁₀ past = (kf : Flight) × (w-kf : Val) × (e-kf : kf ≡ past.0.flight) × (Is flight-row.the_row kf (w-kf ∷ []))
+      New₁₀ past = (kf : Flight) × (w_kf : Val) × (e_kf : kf ≡ past.0.flight) × (Is flight-row.the_row kf (w_kf ∷ []))
 
       abbrev Has₁₀ : (ℕ → ℕ) → Known₁₀ → List (Item 𝓤) → List (Item 𝓤)
       Has₁₀ p past Γ = ‵ (fat full_share flushed-laws.mir (p 20) 0 (past.1)) ∷ ‵ (froom flight-laws.mir (p 21) 0) ∷ Γ
@@ -1421,24 +1421,24 @@ module _ {M : Type 1} {𝓤 : Ura M} (𝓛 : Logic 𝓤) (at_mem : Memory → SP
       part₁₀ {Γ = Γ} t p past on = record {
         prf =
             qed 𝓛 (Has₁₀ p past Γ) ∵ exec ! C Λ (En p) (behind 35 (code.function).body) (at_ret (En p) Post) $
-            nothing ! $ calls-fn ! fm flight-of.ended (flight-of.clauses 𝓛 at_mem run) known.8
+            nothing ! $ calls_fn ! fm flight-of.ended (flight-of.clauses 𝓛 at_mem run) known.8
             ((tt, tt, tt, (past.0, tt), (past.1 ∷ [], tt)), tt) (λ kf _. kf ≡ past.0.flight)
             (‵ ftrue) (plainly 𝓛 (flushed-row.the_row ∷ []) ((LL.makes flushed-row.the_type flushed-laws.the_plain 𝓛), tt)
             (past.0, tt) (past.1 ∷ [], tt) (past.2, tt)) (λ kf _. id⊢ 𝓤 _)
             (and_then ! (load ! (from ! (stop !)) (look ! 1 refl)) (no_more !))
-            (λ kf w-kf _ e-kf is-kf. drop ! $ drop ! $
-            land ! (from ! (stop !)) (init ! 1 refl ((LL.lawful flight-row.the_type flight-laws.the_laws 𝓛).typed kf (w-kf ∷ []) is-kf
+            (λ kf w_kf _ e_kf is-kf. drop ! $ drop ! $
+            land ! (from ! (stop !)) (init ! 1 refl ((LL.lawful flight-row.the_type flight-laws.the_laws 𝓛).typed kf (w_kf ∷ []) is-kf
             ).0) $
-            same ! (on (kf, w-kf, e-kf, is-kf)));
+            same ! (on (kf, w_kf, e_kf, is-kf)));
       }
 
       -- part 11: what it knows, what it tells; what it has, and leaves
       abbrev Known₁₁ : Type 0
-      Known₁₁ = (a : Flushed) × (w-a : Val) × (is-a : Is flushed-row.the_row a (w-a ∷ [])) × (kf : Flight) × (w-kf : Val) ×
-          (Is flight-row.the_row kf (w-kf ∷ []))
+      Known₁₁ = (a : Flushed) × (w_a : Val) × (is_a : Is flushed-row.the_row a (w_a ∷ [])) × (kf : Flight) × (w_kf : Val) ×
+          (Is flight-row.the_row kf (w_kf ∷ []))
 
       abbrev New₁₁ : Known₁₁ → Type 0
-      New₁₁ past = (ka : Arrival) × (w-ka : Val) × (e-ka : ka ≡ past.0.arrival) × (Is arrival-row.the_row ka (w-ka ∷ []))
+      New₁₁ past = (ka : Arrival) × (w_ka : Val) × (e_ka : ka ≡ past.0.arrival) × (Is arrival-row.the_row ka (w_ka ∷ []))
 
       abbrev Has₁₁ : (ℕ → ℕ) → Known₁₁ → List (Item 𝓤) → List (Item 𝓤)
       Has₁₁ p past Γ = ‵ (fat full_share flushed-laws.mir (p 20) 0 (past.1)) ∷ ‵ (fat full_share flight-laws.mir (p 21) 0 (past.4))
@@ -1459,29 +1459,29 @@ module _ {M : Type 1} {𝓤 : Ura M} (𝓛 : Logic 𝓤) (at_mem : Memory → SP
             qed 𝓛 (Has₁₁ p past Γ) ∵ exec ! C Λ (En p) (behind 36 (code.function).body) (at_ret (En p) Post) $
             move ! (3 ∷ []) $ cell_out ! full_share flight-row.the_row (LL.vals flight-row.the_type flight-laws.the_laws)
             (LL.tells flight-row.the_type flight-laws.the_laws) h.flight b (o + 16)
-            (λ was-flight'. assigns ! (of_opd ! (load ! (from ! (stop !)) (look ! 2 refl))) (place-flight ! (look ! 3 refl))
+            (λ was-flight'. assigns ! (of_opd ! (load ! (from ! (stop !)) (look ! 2 refl))) (place_flight ! (look ! 3 refl))
             (store_raw ! 0 refl ((LL.lawful flight-row.the_type flight-laws.the_laws 𝓛).typed past.3 (past.4 ∷ []) past.5
             ).0) $ cell_in ! full_share flight-row.the_row (LL.makes flight-row.the_type flight-laws.the_plain 𝓛) past.3 b (o + 16)
             past.4 past.5 $ nothing ! $
-            calls-fn ! fm arrival-of.ended (arrival-of.clauses 𝓛 at_mem run) known.9
+            calls_fn ! fm arrival-of.ended (arrival-of.clauses 𝓛 at_mem run) known.9
             ((tt, tt, tt, (past.0, tt), (past.1 ∷ [], tt)), tt) (λ ka _. ka ≡ past.0.arrival)
             (‵ ftrue) (plainly 𝓛 (flushed-row.the_row ∷ []) ((LL.makes flushed-row.the_type flushed-laws.the_plain 𝓛), tt)
             (past.0, tt) (past.1 ∷ [], tt) (past.2, tt)) (λ ka _. id⊢ 𝓤 _)
             (and_then ! (load ! (from ! (stop !)) (look ! 2 refl)) (no_more !))
-            (λ ka w-ka _ e-ka is-ka. drop ! $ drop ! $
-            land ! (from ! (stop !)) (init ! 4 refl ((LL.lawful arrival-row.the_type arrival-laws.the_laws 𝓛).typed ka (w-ka ∷ [])
+            (λ ka w_ka _ e_ka is-ka. drop ! $ drop ! $
+            land ! (from ! (stop !)) (init ! 4 refl ((LL.lawful arrival-row.the_type arrival-laws.the_laws 𝓛).typed ka (w_ka ∷ [])
             is-ka
             ).0) $
-            same ! (on (ka, w-ka, e-ka, is-ka))));
+            same ! (on (ka, w_ka, e_ka, is-ka))));
       }
 
       -- part 12: what it knows, what it tells; what it has, and leaves
       abbrev Known₁₂ : Type 0
-      Known₁₂ = (a : Flushed) × (w-a : Val) × (is-a : Is flushed-row.the_row a (w-a ∷ [])) × (ka : Arrival) × (w-ka : Val) ×
-          (Is arrival-row.the_row ka (w-ka ∷ []))
+      Known₁₂ = (a : Flushed) × (w_a : Val) × (is_a : Is flushed-row.the_row a (w_a ∷ [])) × (ka : Arrival) × (w_ka : Val) ×
+          (Is arrival-row.the_row ka (w_ka ∷ []))
 
       abbrev New₁₂ : Known₁₂ → Type 0
-      New₁₂ past = (kc : Clock) × (w-kc : Val) × (e-kc : kc ≡ past.0.clock) × (Is clock-row.the_row kc (w-kc ∷ []))
+      New₁₂ past = (kc : Clock) × (w_kc : Val) × (e_kc : kc ≡ past.0.clock) × (Is clock-row.the_row kc (w_kc ∷ []))
 
       abbrev Has₁₂ : (ℕ → ℕ) → Known₁₂ → List (Item 𝓤) → List (Item 𝓤)
       Has₁₂ p past Γ = ‵ (fat full_share flushed-laws.mir (p 20) 0 (past.1))
@@ -1503,28 +1503,28 @@ module _ {M : Type 1} {𝓤 : Ura M} (𝓛 : Logic 𝓤) (at_mem : Memory → SP
             qed 𝓛 (Has₁₂ p past Γ) ∵ exec ! C Λ (En p) (behind 38 (code.function).body) (at_ret (En p) Post) $
             move ! (3 ∷ []) $ cell_out ! full_share arrival-row.the_row (LL.vals arrival-row.the_type arrival-laws.the_laws)
             (LL.tells arrival-row.the_type arrival-laws.the_laws) h.arrival b (o + 72)
-            (λ was-arrival'. assigns ! (of_opd ! (load ! (from ! (stop !)) (look ! 3 refl))) (place-arrival ! (look ! 2 refl))
+            (λ was-arrival'. assigns ! (of_opd ! (load ! (from ! (stop !)) (look ! 3 refl))) (place_arrival ! (look ! 2 refl))
             (store_raw ! 0 refl ((LL.lawful arrival-row.the_type arrival-laws.the_laws 𝓛).typed past.3 (past.4 ∷ []) past.5
             ).0) $ cell_in ! full_share arrival-row.the_row (LL.makes arrival-row.the_type arrival-laws.the_plain 𝓛) past.3 b
             (o + 72) past.4 past.5 $ nothing ! $
-            calls-fn ! fm clock-of.ended (clock-of.clauses 𝓛 at_mem run) known.10
+            calls_fn ! fm clock-of.ended (clock-of.clauses 𝓛 at_mem run) known.10
             ((tt, tt, tt, (past.0, tt), (past.1 ∷ [], tt)), tt) (λ kc _. kc ≡ past.0.clock)
             (‵ ftrue) (plainly 𝓛 (flushed-row.the_row ∷ []) ((LL.makes flushed-row.the_type flushed-laws.the_plain 𝓛), tt)
             (past.0, tt) (past.1 ∷ [], tt) (past.2, tt)) (λ kc _. id⊢ 𝓤 _)
             (and_then ! (load ! (from ! (stop !)) (look ! 2 refl)) (no_more !))
-            (λ kc w-kc _ e-kc is-kc. drop ! $ drop ! $
-            land ! (from ! (stop !)) (init ! 4 refl ((LL.lawful clock-row.the_type clock-laws.the_laws 𝓛).typed kc (w-kc ∷ []) is-kc
+            (λ kc w_kc _ e_kc is-kc. drop ! $ drop ! $
+            land ! (from ! (stop !)) (init ! 4 refl ((LL.lawful clock-row.the_type clock-laws.the_laws 𝓛).typed kc (w_kc ∷ []) is-kc
             ).0) $
-            same ! (on (kc, w-kc, e-kc, is-kc))));
+            same ! (on (kc, w_kc, e_kc, is-kc))));
       }
 
       -- part 13: what it knows, what it tells; what it has, and leaves
       abbrev Known₁₃ : Type 0
-      Known₁₃ = (a : Flushed) × (w-a : Val) × (is-a : Is flushed-row.the_row a (w-a ∷ [])) × (kc : Clock) × (w-kc : Val) ×
-          (Is clock-row.the_row kc (w-kc ∷ []))
+      Known₁₃ = (a : Flushed) × (w_a : Val) × (is_a : Is flushed-row.the_row a (w_a ∷ [])) × (kc : Clock) × (w_kc : Val) ×
+          (Is clock-row.the_row kc (w_kc ∷ []))
 
       abbrev New₁₃ : Known₁₃ → Type 0
-      New₁₃ past = (c : ℕ) × (w-c : Val) × (e-c : c ≡ past.0.changed) × (Is usize c (w-c ∷ []))
+      New₁₃ past = (c : ℕ) × (w_c : Val) × (e_c : c ≡ past.0.changed) × (Is usize c (w_c ∷ []))
 
       abbrev Has₁₃ : (ℕ → ℕ) → Known₁₃ → List (Item 𝓤) → List (Item 𝓤)
       Has₁₃ p past Γ = ‵ (fat full_share flushed-laws.mir (p 20) 0 (past.1))
@@ -1546,17 +1546,17 @@ module _ {M : Type 1} {𝓤 : Ura M} (𝓛 : Logic 𝓤) (at_mem : Memory → SP
             qed 𝓛 (Has₁₃ p past Γ) ∵ exec ! C Λ (En p) (behind 40 (code.function).body) (at_ret (En p) Post) $
             move ! (3 ∷ []) $ cell_out ! full_share clock-row.the_row (LL.vals clock-row.the_type clock-laws.the_laws)
             (LL.tells clock-row.the_type clock-laws.the_laws) h.clock b (o + 104)
-            (λ was-clock'. assigns ! (of_opd ! (load ! (from ! (stop !)) (look ! 3 refl))) (place-clock ! (look ! 2 refl))
+            (λ was-clock'. assigns ! (of_opd ! (load ! (from ! (stop !)) (look ! 3 refl))) (place_clock ! (look ! 2 refl))
             (store_raw ! 0 refl ((LL.lawful clock-row.the_type clock-laws.the_laws 𝓛).typed past.3 (past.4 ∷ []) past.5
             ).0) $ cell_in ! full_share clock-row.the_row (LL.makes clock-row.the_type clock-laws.the_plain 𝓛) past.3 b (o + 104)
             past.4 past.5 $ nothing ! $
-            calls-fn ! fm changed-of.ended (changed-of.clauses 𝓛 at_mem run) known.11
+            calls_fn ! fm changed-of.ended (changed-of.clauses 𝓛 at_mem run) known.11
             ((tt, tt, tt, (past.0, tt), (past.1 ∷ [], tt)), tt) (λ c _. c ≡ past.0.changed)
             (‵ ftrue) (plainly 𝓛 (flushed-row.the_row ∷ []) ((LL.makes flushed-row.the_type flushed-laws.the_plain 𝓛), tt)
             (past.0, tt) (past.1 ∷ [], tt) (past.2, tt)) (λ c _. id⊢ 𝓤 _)
             (and_then ! (load ! (from ! (stop !)) (look ! 2 refl)) (no_more !))
-            (λ c w-c _ e-c is_c. drop ! $ drop ! $ land ! (from ! (stop !)) (init ! 4 refl ((uint_Lawful 𝓛 w64).typed c _ is_c).0) $
-            same ! (on (c, w-c, e-c, is_c))));
+            (λ c w_c _ e_c is_c. drop ! $ drop ! $ land ! (from ! (stop !)) (init ! 4 refl ((uint_Lawful 𝓛 w64).typed c _ is_c).0) $
+            same ! (on (c, w_c, e_c, is_c))));
       }
 
       -- part 14: what it knows, what it tells; what it has, and leaves
@@ -1590,25 +1590,25 @@ module _ {M : Type 1} {𝓤 : Ura M} (𝓛 : Logic 𝓤) (at_mem : Memory → SP
             assigns ! {v = s₃} (agg ! (and_then ! (load ! (from ! (stop !)) (look ! 3 refl))
             (and_then ! (load ! (from ! (fld ! refl (stop !))) (look_in ! 1 (sub ! 1 refl (whole !)))) (no_more !)))) (from ! (stop !))
             (init ! 2 refl (tt, (tt, (record { fits = room₃.0 }, tt)))) $
-            tells-length ! full_share u32 32 past b (o + 636) (λ mid-outstanding.
+            tells_length ! full_share u32 32 past b (o + 636) (λ mid-outstanding.
             same ! (on (mid-outstanding)));
       }
 
       -- part 15: what it knows, what it tells; what it has, and leaves
       abbrev Known₁₅ : Type 0
-      Known₁₅ = (z₈ : List ℕ) × (z₇ : List ℕ) × (z-found' : List ℕ) × (z-transmissions : List ℕ) × (z-outstanding : List ℕ) ×
-          (z-queued : List ℕ) × (z-found : List ℕ) × (w-g : Val) × (m : ℕ) × (a : Flushed) ×
-          (e-a : (Core x₅ h (recordsIn z-found) m x₁.now x₂.now x₄.now x₆ x₇.now x₈.now a
+      Known₁₅ = (z₈ : List ℕ) × (z₇ : List ℕ) × (z_found' : List ℕ) × (z_transmissions : List ℕ) × (z_outstanding : List ℕ) ×
+          (z_queued : List ℕ) × (z_found : List ℕ) × (w_g : Val) × (m : ℕ) × (a : Flushed) ×
+          (e_a : (Core x₅ h (records_in z_found) m x₁.now x₂.now x₄.now x₆ x₇.now x₈.now a
           (link_of h.settings a.flight a.arrival a.clock
-          (arrays z-queued z-outstanding z-transmissions h.ready h.waiting h.waiting_numbers)) (recordsIn z-found') z₇ z₈) ×
-          (length z-found' ≡ 128)) × (was-found-4 : Is (Array u32 128) z-found' ((array_vals (uint_vals w32)) z-found')) × (kf : Flight) ×
-          (ka : Arrival) × (kc : Clock) × (c : ℕ) × (w-c : Val) × (is_c : Is usize c (w-c ∷ [])) × (length z-outstanding ≡ 32)
+          (arrays z_queued z_outstanding z_transmissions h.ready h.waiting h.waiting_numbers)) (records_in z_found') z₇ z₈) ×
+          (length z_found' ≡ 128)) × (was_found_4 : Is (Array u32 128) z_found' ((array_vals (uint_vals w32)) z_found')) × (kf : Flight) ×
+          (ka : Arrival) × (kc : Clock) × (c : ℕ) × (w_c : Val) × (is_c : Is usize c (w_c ∷ [])) × (length z_outstanding ≡ 32)
 
       abbrev New₁₅ : Known₁₅ → Type 0
-      New₁₅ past = (z₃ : List Record) × (w-u : Val) ×
-          (e-u : z₃ ≡ scattered x₃.now (slotsIn past.4 past.15) (recordsIn past.2)) × (len₃ : length z₃ ≡ length x₃.now) ×
-          (end-queued : length past.5 ≡ 128) × (end-outstanding : length past.4 ≡ 32) × (end-transmissions : length past.3 ≡ 32) ×
-          (end-ready : length h.ready ≡ 128) × (end-waiting : length h.waiting ≡ 128) × (length h.waiting_numbers ≡ 128)
+      New₁₅ past = (z₃ : List Record) × (w_u : Val) ×
+          (e_u : z₃ ≡ scattered x₃.now (slots_in past.4 past.15) (records_in past.2)) × (len₃ : length z₃ ≡ length x₃.now) ×
+          (end_queued : length past.5 ≡ 128) × (end_outstanding : length past.4 ≡ 32) × (end_transmissions : length past.3 ≡ 32) ×
+          (end_ready : length h.ready ≡ 128) × (end_waiting : length h.waiting ≡ 128) × (length h.waiting_numbers ≡ 128)
 
       abbrev Has₁₅ : (ℕ → ℕ) → Known₁₅ → List (Item 𝓤) → List (Item 𝓤)
       Has₁₅ p past Γ = ‵ (part_at (Array u32 32) full_share past.4 b (o + 636))
@@ -1626,7 +1626,7 @@ module _ {M : Type 1} {𝓤 : Ura M} (𝓛 : Logic 𝓤) (at_mem : Memory → SP
           ∷ ‵ (froom (ty_ref erased imm (ty_array (ty_int w32) 32)) (p 51) 0) ∷ Γ
 
       abbrev Leaves₁₅ : (ℕ → ℕ) → (past : Known₁₅) → New₁₅ past → List (Item 𝓤) → List (Item 𝓤)
-      Leaves₁₅ p past new Γ = ‵ (link-own κ₀ b o γ
+      Leaves₁₅ p past new Γ = ‵ (link_own κ₀ b o γ
           (record {
             settings = h.settings;
             flight = past.12;
@@ -1654,29 +1654,29 @@ module _ {M : Type 1} {𝓤 : Ura M} (𝓛 : Logic 𝓤) (at_mem : Memory → SP
       part₁₅ {Γ = Γ} t p past on = record {
         prf =
             qed 𝓛 (Has₁₅ p past Γ) ∵ exec ! C Λ (En p) (behind 44 (code.function).body) (at_ret (En p) Post) $
-            assigns ! {v = (vptr b (o + 636))} (addr ! (place-outstanding ! (look ! 3 refl))) (from ! (stop !)) (init ! 20 refl (tt, tt)) $
+            assigns ! {v = (vptr b (o + 636))} (addr ! (place_outstanding ! (look ! 3 refl))) (from ! (stop !)) (init ! 20 refl (tt, tt)) $
             assigns ! {v = (vptr (p 18) 0)} (addr ! (from ! (stop !))) (from ! (stop !)) (init ! 19 refl (tt, tt)) $
-            lend-shr ! tt full_share (Array u32 32) past.4 b (o + 636)
+            lend_shr ! tt full_share (Array u32 32) past.4 b (o + 636)
             (λ α-outstanding'' δ-outstanding''. move ! (14 ∷ []) $
             use1 𝓛 (‵ (cell_at full_share ((ty_array (ty_int w32) 128) ∷ []) ((only ((array_vals (uint_vals w32)) past.2)) ∷ []) (p 18) 0))
             (𝓛.laws.at_raw full_share (ty_array (ty_int w32) 128) (p 18) 0 (only ((array_vals (uint_vals w32)) past.2))) $
             cell_in ! full_share (Array u32 128) (Array-Makes 𝓛 u32 (uint_Makes 𝓛 w32) 128) past.2 (p 18) 0
             (only ((array_vals (uint_vals w32)) past.2)) past.11 $
-            lend-shr ! tt full_share (Array u32 128) past.2 (p 18) 0
+            lend_shr ! tt full_share (Array u32 128) past.2 (p 18) 0
             (λ α-found'' δ-found''. move ! (18 ∷ 17 ∷ 3 ∷ 4 ∷ 0 ∷ 1 ∷ []) $ group ! 6 $
-            calls-fn ! fm scatter.ended (scatter.clauses 𝓛 at_mem run) known.12
-            (to-scatter α-outstanding'' δ-outstanding'' past.4 (p 18) α-found'' δ-found'' past.2 past.15 past.16)
-            (λ u ws-u. ws-u.0 ≡ scattered x₃.now (slotsIn past.4 past.15) (recordsIn past.2))
+            calls_fn ! fm scatter.ended (scatter.clauses 𝓛 at_mem run) known.12
+            (to_scatter α-outstanding'' δ-outstanding'' past.4 (p 18) α-found'' δ-found'' past.2 past.15 past.16)
+            (λ u ws-u. ws-u.0 ≡ scattered x₃.now (slots_in past.4 past.15) (records_in past.2))
             (‵ (flft κ₃ q₃) ⊛ ‵ Own₃ ⊛ ‵ (flft (α-outstanding'' ∷ []) full_share) ⊛ ‵
-            ((ShrRef (named 0) (α-outstanding'' ∷ []) (Array u32 32)).own_val (ref-at b (o + 636) δ-outstanding'' past.4)
+            ((ShrRef (named 0) (α-outstanding'' ∷ []) (Array u32 32)).own_val (ref_at b (o + 636) δ-outstanding'' past.4)
             ((vptr b (o + 636)) ∷ [])) ⊛ ‵ (flft (α-found'' ∷ []) full_share) ⊛ ‵
-            ((ShrRef (named 0) (α-found'' ∷ []) (Array u32 128)).own_val (ref-at (p 18) 0 δ-found'' past.2) ((vptr (p 18) 0) ∷ [])))
-            (asks-scatter α-outstanding'' δ-outstanding'' past.4 (p 18) α-found'' δ-found'' past.2 past.15 past.16 past.17
+            ((ShrRef (named 0) (α-found'' ∷ []) (Array u32 128)).own_val (ref_at (p 18) 0 δ-found'' past.2) ((vptr (p 18) 0) ∷ [])))
+            (asks_scatter α-outstanding'' δ-outstanding'' past.4 (p 18) α-found'' δ-found'' past.2 past.15 past.16 past.17
             (past.18, past.10.1)) (λ u ws-u. id⊢ 𝓤 _)
             (and_then ! (load ! (from ! (stop !)) (look ! 3 refl))
             (and_then ! (load ! (from ! (stop !)) (look ! 19 refl))
             (and_then ! (load ! (from ! (stop !)) (look ! 6 refl)) (and_then ! (load ! (from ! (stop !)) (look ! 18 refl)) (no_more !)))))
-            (λ u w-u ws-u e-u is-u. land ! (from ! (stop !)) (store ! 15 refl ((Nothing-Lawful 𝓛).typed u _ is-u).0) $
+            (λ u w_u ws-u e_u is-u. land ! (from ! (stop !)) (store ! 15 refl ((Nothing-Lawful 𝓛).typed u _ is-u).0) $
             spread 𝓛 (‵ (flft κ₃ q₃)) (‵ (flft (α-outstanding'' ∷ []) full_share) ∷ ‵ (flft (α-found'' ∷ []) full_share) ∷ ‵ ftrue
             ∷ []) (id⊢ 𝓤 _) $ move ! (4 ∷ []) $
             spread 𝓛 (‵ (fsep (finally R x₃.ghost_name ws-u.0) (feq ℕ (length ws-u.0) (length x₃.now))))
@@ -1690,19 +1690,19 @@ module _ {M : Type 1} {𝓤 : Ura M} (𝓛 : Logic 𝓤) (at_mem : Memory → SP
             past.2 (p 18) 0 (λ was-found-5. use1 𝓛
             (‵ (fat full_share (ty_array (ty_int w32) 128) (p 18) 0 (only ((array_vals (uint_vals w32)) past.2))))
             (𝓛.laws.raw_at full_share (ty_array (ty_int w32) 128) (p 18) 0 (only ((array_vals (uint_vals w32)) past.2))) $
-            move ! (14 ∷ []) $ tells-length ! full_share u32 128 past.5 b (o + 124)
-            (λ end-queued. move ! (2 ∷ []) $
-            tells-length ! full_share u32 32 past.4 b (o + 636)
-            (λ end-outstanding. move ! (14 ∷ []) $
-            tells-length ! full_share u8 32 past.3 b (o + 764)
-            (λ end-transmissions. move ! (14 ∷ []) $
-            tells-length ! full_share u32 128 h.ready b (o + 796)
-            (λ end-ready. move ! (14 ∷ []) $
-            tells-length ! full_share u32 128 h.waiting b (o + 1308)
-            (λ end-waiting. move ! (14 ∷ []) $
-            tells-length ! full_share u32 128 h.waiting_numbers b (o + 1820)
+            move ! (14 ∷ []) $ tells_length ! full_share u32 128 past.5 b (o + 124)
+            (λ end_queued. move ! (2 ∷ []) $
+            tells_length ! full_share u32 32 past.4 b (o + 636)
+            (λ end_outstanding. move ! (14 ∷ []) $
+            tells_length ! full_share u8 32 past.3 b (o + 764)
+            (λ end_transmissions. move ! (14 ∷ []) $
+            tells_length ! full_share u32 128 h.ready b (o + 796)
+            (λ end_ready. move ! (14 ∷ []) $
+            tells_length ! full_share u32 128 h.waiting b (o + 1308)
+            (λ end_waiting. move ! (14 ∷ []) $
+            tells_length ! full_share u32 128 h.waiting_numbers b (o + 1820)
             (λ end-waiting-numbers. move ! (16 ∷ 14 ∷ 13 ∷ 10 ∷ 5 ∷ 4 ∷ 3 ∷ 2 ∷ 1 ∷ 0 ∷ 17 ∷ 18 ∷ []) $
-            closes-link b o γ ! tt h (record {
+            closes_link b o γ ! tt h (record {
               settings = h.settings;
               flight = past.12;
               arrival = past.13;
@@ -1717,24 +1717,24 @@ module _ {M : Type 1} {𝓤 : Ura M} (𝓛 : Logic 𝓤) (at_mem : Memory → SP
             -- [own0; tok0; fin3; tok3; the locals]
             same ! (on (
               ws-u.0,
-              w-u,
-              e-u,
+              w_u,
+              e_u,
               len₃,
-              end-queued,
-              end-outstanding,
-              end-transmissions,
-              end-ready,
-              end-waiting,
+              end_queued,
+              end_outstanding,
+              end_transmissions,
+              end_ready,
+              end_waiting,
               end-waiting-numbers,
             )))))))))))));
       }
 
       -- part 16: what it knows, what it tells; what it has, and leaves
       abbrev Known₁₆ : Type 0
-      Known₁₆ = (a : Flushed) × (w-a : Val) × (Is flushed-row.the_row a (w-a ∷ []))
+      Known₁₆ = (a : Flushed) × (w_a : Val) × (Is flushed-row.the_row a (w_a ∷ []))
 
       abbrev New₁₆ : Known₁₆ → Type 0
-      New₁₆ past = (r : ℤ) × (w-r : Val) × (e-r : r ≡ updateCode past.0.answer) × (Is i32 r (w-r ∷ []))
+      New₁₆ past = (r : ℤ) × (w_r : Val) × (e_r : r ≡ update_code past.0.answer) × (Is i32 r (w_r ∷ []))
 
       abbrev Has₁₆ : (ℕ → ℕ) → Known₁₆ → List (Item 𝓤) → List (Item 𝓤)
       Has₁₆ p past Γ = ‵ (fat full_share flushed-laws.mir (p 20) 0 (past.1)) ∷ ‵ (froom (ty_int w32) (p 0) 0) ∷ Γ
@@ -1748,13 +1748,13 @@ module _ {M : Type 1} {𝓤 : Ura M} (𝓛 : Logic 𝓤) (at_mem : Memory → SP
       part₁₆ {Γ = Γ} t p past on = record {
         prf =
             qed 𝓛 (Has₁₆ p past Γ) ∵ exec ! C Λ (En p) (behind 47 (code.function).body) (at_ret (En p) Post) $
-            nothing ! $ calls-fn ! fm code_of_lem.ended (code_of_lem.clauses 𝓛 at_mem run) known.13
-            ((tt, tt, tt, (past.0, tt), (past.1 ∷ [], tt)), tt) (λ r _. r ≡ updateCode past.0.answer)
+            nothing ! $ calls_fn ! fm code_of_lem.ended (code_of_lem.clauses 𝓛 at_mem run) known.13
+            ((tt, tt, tt, (past.0, tt), (past.1 ∷ [], tt)), tt) (λ r _. r ≡ update_code past.0.answer)
             (‵ ftrue) (plainly 𝓛 (flushed-row.the_row ∷ []) ((LL.makes flushed-row.the_type flushed-laws.the_plain 𝓛), tt)
             (past.0, tt) (past.1 ∷ [], tt) (past.2, tt)) (λ r _. id⊢ 𝓤 _)
             (and_then ! (load ! (from ! (stop !)) (look ! 1 refl)) (no_more !))
-            (λ r w-r _ e-r is-r. drop ! $ drop ! $ land ! (from ! (stop !)) (init ! 1 refl ((sint_Lawful 𝓛 w32).typed r _ is-r).0) $
-            same ! (on (r, w-r, e-r, is-r)));
+            (λ r w_r _ e_r is_r. drop ! $ drop ! $ land ! (from ! (stop !)) (init ! 1 refl ((sint_Lawful 𝓛 w32).typed r _ is_r).0) $
+            same ! (on (r, w_r, e_r, is_r)));
       }
 
       walk : ent 𝓤 (on_entry 𝓛 f.signature (κ₀, (κ₁, (κ₂, (κ₃, (κ₄, (κ₅, (κ₆, tt)))))))
@@ -1775,7 +1775,7 @@ module _ {M : Type 1} {𝓤 : Ura M} (𝓛 : Logic 𝓤) (at_mem : Memory → SP
           pass1 ! (init ! 46 refl ((uint_Lawful 𝓛 w32).typed x₆ _ g₆).0) $
           pass1 ! (init ! 45 refl (tt, (tt, (record { fits = room₇.0 }, tt)))) $
           pass1 ! (init ! 44 refl (tt, (tt, (record { fits = room₈.0 }, tt)))) $ pass0 ! $
-          move ! (55 ∷ []) $ spread 𝓛 (‵ ((MutRef (named 0) κ₀ L).own_val (ref-at b o γ h) (vptr b o ∷ [])))
+          move ! (55 ∷ []) $ spread 𝓛 (‵ ((MutRef (named 0) κ₀ L).own_val (ref_at b o γ h) (vptr b o ∷ [])))
           (‵ ((ShrSlice (named 1) κ₁ u8).own_val (x₁) (s₁ ∷ [])) ∷ ‵ ((ShrSlice (named 2) κ₂ u8).own_val (x₂) (s₂ ∷ []))
           ∷ ‵ ((MutSlice (named 3) κ₃ R).own_val (x₃) (s₃ ∷ [])) ∷ ‵ ((ShrSlice (named 4) κ₄ u32).own_val (x₄) (s₄ ∷ []))
           ∷ ‵ (Boolean.own (x₅) (v₅ ∷ [])) ∷ ‵ (u32.own_val (x₆) (v₆ ∷ []))
@@ -1916,24 +1916,24 @@ module _ {M : Type 1} {𝓤 : Ura M} (𝓛 : Logic 𝓤) (at_mem : Memory → SP
                 h.waiting_numbers;
           }) (new₁₅.0) (new₉.1) (new₉.0)
           (rw (new₁₀.2, new₁₁.2, new₁₂.2) (gives x₅ x₆ h (parts_of x₁.now x₂.now x₃.now x₄.now)
-          (flushPartsOf x₇.now x₈.now) new₉.6.answer
-          (record { words = new₉.4; changed = new₉.6.changed; records = (recordsIn new₉.2) })
+          (flush_parts_of x₇.now x₈.now) new₉.6.answer
+          (record { words = new₉.4; changed = new₉.6.changed; records = (records_in new₉.2) })
           (link_of h.settings new₉.6.flight new₉.6.arrival new₉.6.clock
-          (arrays new₉.5 new₉.4 new₉.3 h.ready h.waiting h.waiting_numbers)) (flushPartsOf new₉.1 new₉.0)
-          new₁₅.0 (records-length 32 new₉.2 new₉.8.1)
-          (put_back x₃.now new₁₅.0 (record { words = new₉.4; changed = new₉.6.changed; records = (recordsIn new₉.2) })
-          new₉.4 new₁₃.0 (recordsIn new₉.2) refl new₁₃.2 refl new₁₅.2)
-          (left x₅ x₆ h (parts_of x₁.now x₂.now x₃.now x₄.now) (flushPartsOf x₇.now x₈.now) new₉.6
+          (arrays new₉.5 new₉.4 new₉.3 h.ready h.waiting h.waiting_numbers)) (flush_parts_of new₉.1 new₉.0)
+          new₁₅.0 (records_length 32 new₉.2 new₉.8.1)
+          (put_back x₃.now new₁₅.0 (record { words = new₉.4; changed = new₉.6.changed; records = (records_in new₉.2) })
+          new₉.4 new₁₃.0 (records_in new₉.2) refl new₁₃.2 refl new₁₅.2)
+          (left x₅ x₆ h (parts_of x₁.now x₂.now x₃.now x₄.now) (flush_parts_of x₇.now x₈.now) new₉.6
           (link_of h.settings new₉.6.flight new₉.6.arrival new₉.6.clock
-          (arrays new₉.5 new₉.4 new₉.3 h.ready h.waiting h.waiting_numbers)) (recordsIn new₉.2)
-          (flushPartsOf new₉.1 new₉.0) (recordsIn new₆.0) new₇.0
-          (gathers h (parts_of x₁.now x₂.now x₃.now x₄.now) new₄.10 (recordsIn new₆.0) new₇.0 new₄.12
+          (arrays new₉.5 new₉.4 new₉.3 h.ready h.waiting h.waiting_numbers)) (records_in new₉.2)
+          (flush_parts_of new₉.1 new₉.0) (records_in new₆.0) new₇.0
+          (gathers h (parts_of x₁.now x₂.now x₃.now x₄.now) new₄.10 (records_in new₆.0) new₇.0 new₄.12
           new₆.4.1 new₇.2) (record {
-            whole-queued = new₁₅.4;
-            whole-outstanding = new₁₅.5;
-            whole-transmissions = new₁₅.6;
+            whole_queued = new₁₅.4;
+            whole_outstanding = new₁₅.5;
+            whole_transmissions = new₁₅.6;
             whole_ready = new₁₅.7;
-            whole-waiting = new₁₅.8;
+            whole_waiting = new₁₅.8;
             whole_numbers = new₁₅.9;
           })
           new₉.8.0) new₁₆.0 new₁₆.2)) new₁₅.3 new₉.10 new₉.11 new₁₆.3))))))))))))))))))
@@ -2006,9 +2006,9 @@ module _ {M : Type 1} {𝓤 : Ura M} (𝓛 : Logic 𝓤) (at_mem : Memory → SP
       a.1.1.1.1.1.1.1.0 are.1.1.1.1.1.1.1.0.0.1 a.1.1.1.1.1.1.1.1.0 are.1.1.1.1.1.1.1.1.0.0.1
       𝓣.C 𝓣.Λ (fm_of 𝓤 H 𝓛.laws 𝓣) known)))
 
-pub write-out-spec : {M : Type 1} → stated.statement M
+pub write_out_spec : {M : Type 1} → stated.statement M
 unfolding code.routine tables_of
-write-out-spec 𝓤 𝓛 𝓜 𝓡 =
+write_out_spec 𝓤 𝓛 𝓜 𝓡 =
     entered 𝓤 𝓛.H (triple_of 𝓛 f.signature (f.spec 𝓛 𝓜.mem 𝓡.run))
     (tables 𝓤 𝓛.H 𝓜 𝓡 code.env).C (tables 𝓤 𝓛.H 𝓜 𝓡 code.env).Λ #f code.function (code.unfolded 𝓤 𝓛.H 𝓜 𝓡)
     (f_meets 𝓛 𝓜.mem 𝓡.run (tables_of 𝓤 𝓛.H 𝓜 (tables 𝓤 𝓛.H 𝓜 𝓡 code.env)) (

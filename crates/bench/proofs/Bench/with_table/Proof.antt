@@ -4,5 +4,5 @@ use borrow.Author.Rules.{rules}
 use Rattle.bench.proofs.Bench.with_table.Statement.{statement}
 use Rattle.bench.proofs.Bench.with_table.Tie as tie
 
-pub with-table-spec : {M : Type 1} → statement M
-with-table-spec = tie.close (tie.spec (search rules) (λ c. rw c.with-link.ensures))
+pub with_table_spec : {M : Type 1} → statement M
+with_table_spec = tie.close (tie.spec (search rules) (λ c. rw c.with-link.ensures))

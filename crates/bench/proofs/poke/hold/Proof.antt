@@ -6,8 +6,8 @@ use Prim.Native.Nat.{ℕ}
 use native.Mathlib.Omega.{arith}
 use borrow.Author.Rules.{rules}
 use lib.ListN.{set}
-use Rattle.bench.specs.Fields.{segmentsOf}
-use Rattle.bench.specs.FieldLaws.{past, few-lists, words-changed}
+use Rattle.bench.specs.Fields.{segments_of}
+use Rattle.bench.specs.FieldLaws.{past, few_lists, words_changed}
 use Rattle.bench.proofs.poke.hold.Statement.{statement}
 use Rattle.bench.proofs.poke.hold.Tie as tie
 
@@ -17,8 +17,8 @@ returns c h =
     let e = c.before.before.match.keys1 in
     let r = c.in_words_lem.ensures in
     record {
-      segments = rw (e, r.is) (ap (λ (s : List (List ℕ)). set (segmentsOf a.link) 0 s)
-          (words-changed a.link.queued a.index r.word a.field _ (λ g. r.fields g (rw e at h))));
+      segments = rw (e, r.is) (ap (λ (s : List (List ℕ)). set (segments_of a.link) 0 s)
+          (words_changed a.link.queued a.index r.word a.field _ (λ g. r.fields g (rw e at h))));
       counts = refl;
       fields = refl;
     }
@@ -29,8 +29,8 @@ returns-3 c h =
     let e = c.before.before.match.keys3 in
     let r = c.in-words2.ensures in
     record {
-      segments = rw (e, r.is) (ap (λ (s : List (List ℕ)). set (segmentsOf a.link) 2 s)
-          (words-changed a.link.ready a.index r.word a.field _ (λ g. r.fields g (rw e at h))));
+      segments = rw (e, r.is) (ap (λ (s : List (List ℕ)). set (segments_of a.link) 2 s)
+          (words_changed a.link.ready a.index r.word a.field _ (λ g. r.fields g (rw e at h))));
       counts = refl;
       fields = refl;
     }
@@ -42,9 +42,9 @@ returns-4 : tie.Need-returns-4
 returns-4 c h =
     let rest = c.before.match.rest in
     let n = c.before.before.args.list in
-    let few = few-lists n _ h in
+    let few = few_lists n _ h in
     let e : n ≡ 3 = omega (arith, past n 2 (past n 1 (past n 0 (omega arith) rest.0.0.1) rest.0.1) rest.1) in
     rw e (c.hold-waiting.ensures (rw e at h))
 
-pub hold-spec : {M : Type 1} → statement M
-hold-spec = tie.close (tie.spec (search rules) (search rules) (search rules) (search rules) returns returns-2 returns-3 returns-4)
+pub hold_spec : {M : Type 1} → statement M
+hold_spec = tie.close (tie.spec (search rules) (search rules) (search rules) (search rules) returns returns-2 returns-3 returns-4)

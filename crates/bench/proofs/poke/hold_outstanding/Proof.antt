@@ -6,9 +6,9 @@ use native.Mathlib.Omega.{arith}
 use borrow.Author.Rules.{rules}
 use Prim.Native.Nat.{ℕ, ◌<◌}
 use lib.ListN.{set}
-use Rattle.words.specs.Words.{paired, outstandingAt}
-use Rattle.bench.specs.Fields.{outstandingFields, segmentsOf, changed, storedIn}
-use Rattle.bench.specs.FieldLaws.{word-changed, number-changed, stored-three}
+use Rattle.words.specs.Words.{paired, outstanding_at}
+use Rattle.bench.specs.Fields.{outstanding_fields, segments_of, changed, stored_in}
+use Rattle.bench.specs.FieldLaws.{word_changed, number_changed, stored_three}
 use Rattle.bench.proofs.poke.hold_outstanding.Statement.{statement}
 use Rattle.bench.proofs.poke.hold_outstanding.Tie as tie
 
@@ -18,8 +18,8 @@ returns c h =
     let e = c.before.before.if1.true in
     record {
       segments = rw (e, c.in-transmissions.ensures)
-          (ap (λ (s : List (List ℕ)). set (segmentsOf a.link) 1 s)
-          (number-changed outstandingAt outstandingFields (λ w n. refl) a.link.outstanding a.link.transmissions a.i _));
+          (ap (λ (s : List (List ℕ)). set (segments_of a.link) 1 s)
+          (number_changed outstanding_at outstanding_fields (λ w n. refl) a.link.outstanding a.link.transmissions a.i _));
       counts = refl;
       fields = refl;
     }
@@ -30,13 +30,13 @@ returns-2 c h =
     let three : a.field < 3 = omega (arith, c.before.before.if1.false) in
     let r = c.in-outstanding.ensures in
     record {
-      segments = rw (r.is, stored-three 1 a.field a.value (omega arith) three)
-          (ap (λ (s : List (List ℕ)). set (segmentsOf a.link) 1 s)
-          (word-changed outstandingAt outstandingFields (λ w n. refl) a.link.outstanding a.link.transmissions a.i r.word
+      segments = rw (r.is, stored_three 1 a.field a.value (omega arith) three)
+          (ap (λ (s : List (List ℕ)). set (segments_of a.link) 1 s)
+          (word_changed outstanding_at outstanding_fields (λ w n. refl) a.link.outstanding a.link.transmissions a.i r.word
           a.field _ three (λ g. r.fields g three)));
       counts = refl;
       fields = refl;
     }
 
-pub hold-outstanding-spec : {M : Type 1} → statement M
-hold-outstanding-spec = tie.close (tie.spec (search rules) returns (search rules) returns-2)
+pub hold_outstanding_spec : {M : Type 1} → statement M
+hold_outstanding_spec = tie.close (tie.spec (search rules) returns (search rules) returns-2)

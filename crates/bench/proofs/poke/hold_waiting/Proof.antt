@@ -6,9 +6,9 @@ use native.Mathlib.Omega.{arith}
 use borrow.Author.Rules.{rules}
 use Prim.Native.Nat.{ℕ, ◌<◌}
 use lib.ListN.{set}
-use Rattle.words.specs.Words.{paired, waitingAt}
-use Rattle.bench.specs.Fields.{waitingFields, segmentsOf, changed, storedIn}
-use Rattle.bench.specs.FieldLaws.{word-changed, number-changed, stored-three}
+use Rattle.words.specs.Words.{paired, waiting_at}
+use Rattle.bench.specs.Fields.{waiting_fields, segments_of, changed, stored_in}
+use Rattle.bench.specs.FieldLaws.{word_changed, number_changed, stored_three}
 use Rattle.bench.proofs.poke.hold_waiting.Statement.{statement}
 use Rattle.bench.proofs.poke.hold_waiting.Tie as tie
 
@@ -18,8 +18,8 @@ returns c h =
     let e = c.before.before.if1.true in
     record {
       segments = rw (e, c.in-numbers.ensures)
-          (ap (λ (s : List (List ℕ)). set (segmentsOf a.link) 3 s)
-          (number-changed waitingAt waitingFields (λ w n. refl) a.link.waiting a.link.waiting_numbers a.i _));
+          (ap (λ (s : List (List ℕ)). set (segments_of a.link) 3 s)
+          (number_changed waiting_at waiting_fields (λ w n. refl) a.link.waiting a.link.waiting_numbers a.i _));
       counts = refl;
       fields = refl;
     }
@@ -30,13 +30,13 @@ returns-2 c h =
     let three : a.field < 3 = omega (arith, c.before.before.if1.false) in
     let r = c.in_words_lem.ensures in
     record {
-      segments = rw (r.is, stored-three 3 a.field a.value (omega arith) three)
-          (ap (λ (s : List (List ℕ)). set (segmentsOf a.link) 3 s)
-          (word-changed waitingAt waitingFields (λ w n. refl) a.link.waiting a.link.waiting_numbers a.i r.word a.field _
+      segments = rw (r.is, stored_three 3 a.field a.value (omega arith) three)
+          (ap (λ (s : List (List ℕ)). set (segments_of a.link) 3 s)
+          (word_changed waiting_at waiting_fields (λ w n. refl) a.link.waiting a.link.waiting_numbers a.i r.word a.field _
           three (λ g. r.fields g three)));
       counts = refl;
       fields = refl;
     }
 
-pub hold-waiting-spec : {M : Type 1} → statement M
-hold-waiting-spec = tie.close (tie.spec (search rules) returns (search rules) returns-2)
+pub hold_waiting_spec : {M : Type 1} → statement M
+hold_waiting_spec = tie.close (tie.spec (search rules) returns (search rules) returns-2)

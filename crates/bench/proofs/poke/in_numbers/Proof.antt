@@ -13,5 +13,5 @@ returns-2 c =
     let whole : length c.before.args.list ≡ 128 = search rules in
     sym (set_out c.before.args.list c.before.args.i _ (omega (arith, c.if1.false)))
 
-pub in-numbers-spec : {M : Type 1} → statement M
-in-numbers-spec = tie.close (tie.spec (search rules) (search rules) (search rules) returns-2)
+pub in_numbers_spec : {M : Type 1} → statement M
+in_numbers_spec = tie.close (tie.spec (search rules) (search rules) (search rules) returns-2)

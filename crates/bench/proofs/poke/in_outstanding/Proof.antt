@@ -20,5 +20,5 @@ returns-2 c =
       fields = λ h g. absurd (omega (arith, c.if1.false));
     }
 
-pub in-outstanding-spec : {M : Type 1} → statement M
-in-outstanding-spec = tie.close (tie.spec (search rules) (search rules) (search rules) (search rules) (search rules) returns returns-2)
+pub in_outstanding_spec : {M : Type 1} → statement M
+in_outstanding_spec = tie.close (tie.spec (search rules) (search rules) (search rules) (search rules) (search rules) returns returns-2)

@@ -13,5 +13,5 @@ returns-2 c =
     let whole : length c.before.args.list ≡ 32 = search rules in
     sym (set_out c.before.args.list c.before.args.i _ (omega (arith, c.if1.false)))
 
-pub in-transmissions-spec : {M : Type 1} → statement M
-in-transmissions-spec = tie.close (tie.spec (search rules) (search rules) (λ c. rw c.byte.ensures) returns-2)
+pub in_transmissions_spec : {M : Type 1} → statement M
+in_transmissions_spec = tie.close (tie.spec (search rules) (search rules) (λ c. rw c.byte.ensures) returns-2)

@@ -20,5 +20,5 @@ returns-2 c =
       fields = λ h g. absurd (omega (arith, c.if1.false));
     }
 
-pub in-words-spec : {M : Type 1} → statement M
-in-words-spec = tie.close (tie.spec (search rules) (search rules) (search rules) (search rules) (search rules) returns returns-2)
+pub in_words_spec : {M : Type 1} → statement M
+in_words_spec = tie.close (tie.spec (search rules) (search rules) (search rules) (search rules) (search rules) returns returns-2)

@@ -16,8 +16,8 @@ returns-7 c h =
     let last : n ≡ 25 = omega (arith, past n 24 (past n 23 (past n 22 to-21 rest.0.0.1) rest.0.1) rest.1) in
     record { fields = rw last; counts = refl; lists = refl }
 
-pub later-spec : {M : Type 1} → statement M
-later-spec =
+pub later_spec : {M : Type 1} → statement M
+later_spec =
     tie.close
     (tie.spec
     (search rules)

@@ -13,6 +13,6 @@ returns-4 c h =
     let last : n ≡ 3 = omega (arith, past n 2 (past n 1 (past n 0 (omega arith) rest.0.0.1) rest.0.1) rest.1) in
     rw last
 
-pub list-count-spec : {M : Type 1} → statement M
-list-count-spec =
+pub list_count_spec : {M : Type 1} → statement M
+list_count_spec =
     tie.close (tie.spec (λ c h. rw c.match.keys1) (λ c h. rw c.match.keys2) (λ c h. rw c.match.keys3) returns-4)

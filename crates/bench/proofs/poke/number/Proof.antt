@@ -19,8 +19,8 @@ returns-8 c =
     ) in
     record { fields = rw last; counts = refl; lists = refl }
 
-pub number-spec : {M : Type 1} → statement M
-number-spec =
+pub number_spec : {M : Type 1} → statement M
+number_spec =
     tie.close
     (tie.spec
     (search rules)

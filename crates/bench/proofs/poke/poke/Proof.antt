@@ -3,7 +3,7 @@
 use mathlib.Core.Path.{◌≡◌, refl}
 use native.Mathlib.Omega.{arith}
 use borrow.Author.Rules.{rules}
-use Rattle.bench.specs.FieldLaws.{settings-first}
+use Rattle.bench.specs.FieldLaws.{settings_first}
 use Rattle.bench.proofs.poke.poke.Statement.{statement}
 use Rattle.bench.proofs.poke.poke.Tie as tie
 
@@ -11,7 +11,7 @@ first : tie.Need-returns
 first c h =
     let e = c.setting.ensures in
     record {
-      fields = rw (e.1, e.2) (settings-first c.before.before.args.link.settings c.setting.result _ _ _
+      fields = rw (e.1, e.2) (settings_first c.before.before.args.link.settings c.setting.result _ _ _
           c.before.if1.true e.0);
       counts = refl;
       lists = refl;

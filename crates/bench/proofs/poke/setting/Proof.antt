@@ -17,8 +17,8 @@ returns-5 c =
     ) in
     (rw (last, c.byte2.ensures), refl, refl)
 
-pub setting-spec : {M : Type 1} → statement M
-setting-spec =
+pub setting_spec : {M : Type 1} → statement M
+setting_spec =
     tie.close
     (tie.spec
     (search rules)

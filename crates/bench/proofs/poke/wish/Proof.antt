@@ -18,8 +18,8 @@ returns-6 c h =
     ) in
     record { fields = rw last; counts = refl; lists = refl }
 
-pub wish-spec : {M : Type 1} → statement M
-wish-spec =
+pub wish_spec : {M : Type 1} → statement M
+wish_spec =
     tie.close
     (tie.spec
     (search rules)

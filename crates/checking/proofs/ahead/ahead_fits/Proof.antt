@@ -9,8 +9,8 @@ use Rattle.checking.proofs.ahead.ahead_fits.Tie as tie
 returns : tie.Need-returns
 returns c = rw (eq-eqb _ _ c.if1.true) refl
 
-pub ahead-fits-spec : {M : Type 1} → statement M
-ahead-fits-spec =
+pub ahead_fits_spec : {M : Type 1} → statement M
+ahead_fits_spec =
     tie.close
     (tie.spec
     returns

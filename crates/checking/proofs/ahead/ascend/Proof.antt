@@ -7,15 +7,15 @@ use native.Mathlib.Omega.{arith}
 use borrow.Author.Rules.{rules}
 use lib.ListN.{take, drop}
 use Rattle.checking.specs.Tests.{neighbours}
-use Rattle.checking.proofs.Turns.{near_next, near-end}
+use Rattle.checking.proofs.Turns.{near_next, near_end}
 use Rattle.checking.proofs.ahead.ascend.Statement.{statement}
 use Rattle.checking.proofs.ahead.ascend.Tie as tie
 
 abbrev invariant-loop : tie.invariant-loop
 invariant-loop numbers n fit₀ i₀ fit i = (1 ≤ i) × (neighbours (take n numbers) ≡ (fit && neighbours (drop (i - 1) (take n numbers))))
 
-pub ascend-spec : {M : Type 1} → statement M
-ascend-spec =
+pub ascend_spec : {M : Type 1} → statement M
+ascend_spec =
     tie.close
     (tie.spec
     invariant-loop
@@ -36,5 +36,5 @@ ascend-spec =
           c.follows.result c.before.before.before.loop-test.true c.follows.ensures,
     ))
     (λ c. let s = c.before.before in
-    sym (near-end s.args.numbers.now s.args.n _ _ c.before.loop.fit c.before.loop.invariant.0 (omega (arith, s.requires))
+    sym (near_end s.args.numbers.now s.args.n _ _ c.before.loop.fit c.before.loop.invariant.0 (omega (arith, s.requires))
     c.before.loop.invariant.1 c.loop-test.false)))

@@ -4,5 +4,5 @@ use borrow.Author.Rules.{rules}
 use Rattle.checking.proofs.ahead.ends_fit.Statement.{statement}
 use Rattle.checking.proofs.ahead.ends_fit.Tie as tie
 
-pub ends-fit-spec : {M : Type 1} → statement M
-ends-fit-spec = tie.close (tie.spec (λ c κs. search rules) (λ c κs. search rules) (λ c. cc))
+pub ends_fit_spec : {M : Type 1} → statement M
+ends_fit_spec = tie.close (tie.spec (λ c κs. search rules) (λ c κs. search rules) (λ c. cc))

@@ -4,5 +4,5 @@ use borrow.Author.Rules.{rules}
 use Rattle.checking.proofs.flights.flown.Statement.{statement}
 use Rattle.checking.proofs.flights.flown.Tie as tie
 
-pub flown-spec : {M : Type 1} → statement M
-flown-spec = tie.close (tie.spec (λ c κs. search rules) (λ c. cc))
+pub flown_spec : {M : Type 1} → statement M
+flown_spec = tie.close (tie.spec (λ c κs. search rules) (λ c. cc))

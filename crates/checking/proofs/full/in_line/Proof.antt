@@ -6,14 +6,14 @@ use Prim.Native.Nat.{◌+◌, ◌-◌, ◌≤◌}
 use native.Mathlib.Omega.{arith}
 use borrow.Author.Rules.{rules}
 use lib.ListN.{take, drop}
-use Rattle.checking.specs.Tests.{inLine}
-use Rattle.checking.proofs.Lines.{line-start, line-next, line-end}
+use Rattle.checking.specs.Tests.{in_line}
+use Rattle.checking.proofs.Lines.{line_start, line_next, line_end}
 use Rattle.checking.proofs.full.in_line.Statement.{statement}
 use Rattle.checking.proofs.full.in_line.Tie as tie
 
 abbrev invariant-loop : tie.invariant-loop
 invariant-loop words from fit₀ slot₀ i₀ fit slot i =
-    (slot ≡ from + i) × (inLine from (take 128 words) ≡ (fit && inLine (from + i) (drop i (take 128 words))))
+    (slot ≡ from + i) × (in_line from (take 128 words) ≡ (fit && in_line (from + i) (drop i (take 128 words))))
 
 abbrev decreases-loop : tie.decreases-loop
 decreases-loop words from fit₀ slot₀ i₀ fit slot i = 128 - i
@@ -29,7 +29,7 @@ loop-again c =
     let l = c.before.before.before.loop in
     let at : l.slot + 1 ≡ s.args.from + (l.i + 1) = omega (arith, l.invariant.0) in (
       at,
-      line-next s.args.words.now s.args.from l.i _ l.fit s.requires.0 l.invariant.1 c.is_at.result l.slot
+      line_next s.args.words.now s.args.from l.i _ l.fit s.requires.0 l.invariant.1 c.is_at.result l.slot
           c.before.before.loop-test.true l.invariant.0 c.is_at.ensures,
     )
 
@@ -37,15 +37,15 @@ returns : tie.Need-returns invariant-loop decreases-loop
 returns c =
     let s = c.before.before in
     let l = c.before.loop in
-    sym (line-end s.args.words.now s.args.from l.i _ l.fit s.requires.0 l.invariant.1 c.loop-test.false)
+    sym (line_end s.args.words.now s.args.from l.i _ l.fit s.requires.0 l.invariant.1 c.loop-test.false)
 
-pub in-line-spec : {M : Type 1} → statement M
-in-line-spec =
+pub in_line_spec : {M : Type 1} → statement M
+in_line_spec =
     tie.close
     (tie.spec
     invariant-loop
     decreases-loop
-    (λ c. (omega arith, line-start _ _))
+    (λ c. (omega arith, line_start _ _))
     (λ c. search rules)
     (λ c. search rules)
     (λ c κs. search rules)

@@ -7,16 +7,16 @@ use native.Mathlib.Omega.{arith}
 use borrow.Author.Rules.{rules}
 use lib.ListN.{take, drop}
 use Rattle.session.specs.Valid.{all}
-use Rattle.checking.specs.Tests.{wordFits}
-use Rattle.checking.proofs.Turns.{all-next, all_end}
+use Rattle.checking.specs.Tests.{word_fits}
+use Rattle.checking.proofs.Turns.{all_next, all_end}
 use Rattle.checking.proofs.limits.held_fit.Statement.{statement}
 use Rattle.checking.proofs.limits.held_fit.Tie as tie
 
 abbrev invariant-loop : tie.invariant-loop
-invariant-loop words n mss fit₀ i₀ fit i = (i ≤ n) × (all (wordFits mss) (take n words) ≡ (fit && all (wordFits mss) (drop i (take n words))))
+invariant-loop words n mss fit₀ i₀ fit i = (i ≤ n) × (all (word_fits mss) (take n words) ≡ (fit && all (word_fits mss) (drop i (take n words))))
 
-pub held-fit-spec : {M : Type 1} → statement M
-held-fit-spec =
+pub held_fit_spec : {M : Type 1} → statement M
+held_fit_spec =
     tie.close
     (tie.spec
     invariant-loop
@@ -29,7 +29,7 @@ held-fit-spec =
     (λ c. search rules)
     (λ c. let s = c.before.before.before.before in (
       search rules,
-      all-next _ s.args.words.now s.args.n _ _ c.before.before.before.loop.fit
+      all_next _ s.args.words.now s.args.n _ _ c.before.before.before.loop.fit
           c.before.before.before.loop.invariant.1 c.word-fits.result c.before.before.loop-test.true (omega (arith, s.requires))
           c.word-fits.ensures,
     ))

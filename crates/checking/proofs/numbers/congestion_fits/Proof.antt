@@ -10,5 +10,5 @@ use Rattle.checking.proofs.numbers.congestion_fits.Tie as tie
 returns : tie.Need-returns
 returns c = c.fits2.ensures ∙ ap (fits _) c.before.mss.ensures
 
-pub congestion-fits-spec : {M : Type 1} → statement M
-congestion-fits-spec = tie.close (tie.spec (λ c κs. search rules) (λ c. search rules) (λ c κs. search rules) returns)
+pub congestion_fits_spec : {M : Type 1} → statement M
+congestion_fits_spec = tie.close (tie.spec (λ c κs. search rules) (λ c. search rules) (λ c κs. search rules) returns)

@@ -4,5 +4,5 @@ use borrow.Author.Rules.{rules}
 use Rattle.checking.proofs.numbers.round_trip_fits.Statement.{statement}
 use Rattle.checking.proofs.numbers.round_trip_fits.Tie as tie
 
-pub round-trip-fits-spec : {M : Type 1} → statement M
-round-trip-fits-spec = tie.close (tie.spec (λ c κs. search rules) (λ c. cc))
+pub round_trip_fits_spec : {M : Type 1} → statement M
+round_trip_fits_spec = tie.close (tie.spec (λ c κs. search rules) (λ c. cc))

@@ -4,5 +4,5 @@ use borrow.Author.Rules.{rules}
 use Rattle.checking.proofs.numbers.timeout_fits.Statement.{statement}
 use Rattle.checking.proofs.numbers.timeout_fits.Tie as tie
 
-pub timeout-fits-spec : {M : Type 1} → statement M
-timeout-fits-spec = tie.close (tie.spec (λ c κs. search rules) (λ c. cc))
+pub timeout_fits_spec : {M : Type 1} → statement M
+timeout_fits_spec = tie.close (tie.spec (λ c κs. search rules) (λ c. cc))

@@ -3,13 +3,13 @@
 use borrow.Author.Rules.{rules}
 use Prim.Native.Nat.{◌+◌}
 use native.Mathlib.Omega.{arith}
-use Rattle.congestion.specs.Congestions.{bySkips}
-use Rattle.congestion.specs.CongestionLaws.{halved-most, product-fits}
+use Rattle.congestion.specs.Congestions.{by_skips}
+use Rattle.congestion.specs.CongestionLaws.{halved_most, product_fits}
 use Rattle.congestion.proofs.rules.by_skips.Statement.{statement}
 use Rattle.congestion.proofs.rules.by_skips.Tie as tie
 
 add-window : tie.Need-overflow-add-window
-add-window c = record { fits = omega (arith, halved-most _ c.before.before.requires.inflight) }
+add-window c = record { fits = omega (arith, halved_most _ c.before.before.requires.inflight) }
 
 mul-t5 : tie.Need-overflow-mul-t5
 mul-t5 c =
@@ -17,17 +17,17 @@ mul-t5 c =
       fits =
           omega (
             arith,
-            product-fits
+            product_fits
                 (c.before.halved.result + c.before.before.args.losses.skips)
                 c.before.before.args.mss
-                (omega (arith, c.before.halved.ensures, halved-most _ c.before.before.requires.inflight))
+                (omega (arith, c.before.halved.ensures, halved_most _ c.before.before.requires.inflight))
                 c.before.before.requires.most,
           );
     }
 
 returns : tie.Need-returns
-unfolding bySkips
+unfolding by_skips
 returns c = rw c.before.halved.ensures
 
-pub by-skips-spec : {M : Type 1} → statement M
-by-skips-spec = tie.close (tie.spec (search rules) (search rules) add-window mul-t5 returns)
+pub by_skips_spec : {M : Type 1} → statement M
+by_skips_spec = tie.close (tie.spec (search rules) (search rules) add-window mul-t5 returns)

@@ -9,5 +9,5 @@ returns : tie.Need-returns
 unfolding halved
 returns c = c.larger.ensures
 
-pub halved-spec : {M : Type 1} → statement M
-halved-spec = tie.close (tie.spec (search rules) returns)
+pub halved_spec : {M : Type 1} → statement M
+halved_spec = tie.close (tie.spec (search rules) returns)

@@ -3,7 +3,7 @@
 use native.Mathlib.Omega.{arith}
 use borrow.Author.Tests.{lt-ltb, le-ltb}
 use Rattle.congestion.specs.Congestions.{limited}
-use Rattle.congestion.specs.CongestionLaws.{product-fits}
+use Rattle.congestion.specs.CongestionLaws.{product_fits}
 use Rattle.congestion.proofs.rules.limited.Statement.{statement}
 use Rattle.congestion.proofs.rules.limited.Tie as tie
 
@@ -11,7 +11,7 @@ mul-t7 : tie.Need-overflow-mul-t7
 mul-t7 c = record {
   fits = omega (
     arith,
-    product-fits c.before.before.args.peer c.before.before.args.mss (omega arith) c.before.before.requires,
+    product_fits c.before.before.args.peer c.before.before.args.mss (omega arith) c.before.before.requires,
   );
 }
 
@@ -23,5 +23,5 @@ returns-2 : tie.Need-returns-2
 unfolding limited
 returns-2 c = rw (le-ltb _ _ c.if1.false)
 
-pub limited-spec : {M : Type 1} → statement M
-limited-spec = tie.close (tie.spec mul-t7 returns returns-2)
+pub limited_spec : {M : Type 1} → statement M
+limited_spec = tie.close (tie.spec mul-t7 returns returns-2)

@@ -5,18 +5,18 @@ use Prim.Native.Nat.{◌*◌}
 use native.Mathlib.Omega.{arith}
 use native.Mathlib.Nat.{div-le_self}
 use Rattle.congestion.specs.Congestions.{raised}
-use Rattle.congestion.specs.CongestionLaws.{square-fits}
+use Rattle.congestion.specs.CongestionLaws.{square_fits}
 use Rattle.congestion.proofs.rules.raised.Statement.{statement}
 use Rattle.congestion.proofs.rules.raised.Tie as tie
 
 mul-result : tie.Need-overflow-mul-result
-mul-result c = record { fits = omega (arith, square-fits c.before.args.mss c.before.requires.2) }
+mul-result c = record { fits = omega (arith, square_fits c.before.args.mss c.before.requires.2) }
 
 add-result : tie.Need-overflow-add-result
 add-result c = record {
   fits = omega (
     arith,
-    square-fits c.before.args.mss c.before.requires.2,
+    square_fits c.before.args.mss c.before.requires.2,
     div-le_self (c.before.args.mss * c.before.args.mss) c.larger.result,
   );
 }
@@ -26,7 +26,7 @@ add-result-2 c = record {
   fits = omega (
     arith,
     c.larger.ensures,
-    square-fits c.before.args.mss c.before.requires.2,
+    square_fits c.before.args.mss c.before.requires.2,
     div-le_self (c.before.args.mss * c.before.args.mss) c.larger.result,
   );
 }
@@ -35,5 +35,5 @@ returns : tie.Need-returns
 unfolding raised
 returns c = rw c.larger.ensures
 
-pub raised-spec : {M : Type 1} → statement M
-raised-spec = tie.close (tie.spec (search rules) mul-result (search rules) add-result add-result-2 returns)
+pub raised_spec : {M : Type 1} → statement M
+raised_spec = tie.close (tie.spec (search rules) mul-result (search rules) add-result add-result-2 returns)

@@ -10,5 +10,5 @@ after-flush-requires c κs = rw (c.before.before.mss.ensures, c.before.differenc
 returns : tie.Need-returns
 returns c = rw (c.after-flush.ensures, c.before.before.before.mss.ensures, c.before.before.difference.ensures)
 
-pub after-losses-spec : {M : Type 1} → statement M
-after-losses-spec = tie.close (tie.spec (λ c κs. search rules) (λ c κs. search rules) (λ c. search rules) after-flush-requires returns)
+pub after_losses_spec : {M : Type 1} → statement M
+after_losses_spec = tie.close (tie.spec (λ c κs. search rules) (λ c κs. search rules) (λ c. search rules) after-flush-requires returns)

@@ -4,5 +4,5 @@ use mathlib.Core.Path.{refl}
 use Rattle.flush_core.proofs.parts.cleared.Statement.{statement}
 use Rattle.flush_core.proofs.parts.cleared.Tie as tie
 
-pub cleared-spec : {M : Type 1} → statement M
-cleared-spec = tie.close (tie.spec (λ c. refl))
+pub cleared_spec : {M : Type 1} → statement M
+cleared_spec = tie.close (tie.spec (λ c. refl))

@@ -12,5 +12,5 @@ returns c = record {
   flag = c.flag.ensures ∙ ap (λ (b : Bool). b || c.before.before.args.dead) c.before.is_set.ensures;
 }
 
-pub moved-spec : {M : Type 1} → statement M
-moved-spec = tie.close (tie.spec (λ c κs. search rules) (λ c κs. search rules) returns)
+pub moved_spec : {M : Type 1} → statement M
+moved_spec = tie.close (tie.spec (λ c κs. search rules) (λ c κs. search rules) returns)

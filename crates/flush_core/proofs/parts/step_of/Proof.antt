@@ -5,7 +5,7 @@ use borrow.Author.Rules.{rules}
 use Rattle.schedule.specs.Schedules.{updated}
 use Rattle.schedule.specs.declared.Schedule.{Schedule}
 use Rattle.schedule.specs.declared.Updated.{Updated}
-use Rattle.control.specs.Views.{scheduleOf}
+use Rattle.control.specs.Views.{schedule_of}
 use Rattle.checking.proofs.Turns.{not-true, not-false}
 use Rattle.flush_core.proofs.parts.step_of.Statement.{statement}
 use Rattle.flush_core.proofs.parts.step_of.Tie as tie
@@ -18,7 +18,7 @@ returns-2 c =
     let moves = c.before.before in
     let branch = moves.before.before in
     let a = branch.before.args in
-    let is : moves.update.result ≡ updated (scheduleOf a.clock) a.t a.interval
+    let is : moves.update.result ≡ updated (schedule_of a.clock) a.t a.interval
     = moves.update.ensures ∙ ap (λ (s : Schedule). updated s a.t a.interval) moves.before.schedule-of.ensures in
     rw (not-false a.paced branch.if1.false) (record {
       is = refl;
@@ -27,5 +27,5 @@ returns-2 c =
       flushes = ap (λ (u : Updated). u.flushes) is;
     })
 
-pub step-of-spec : {M : Type 1} → statement M
-step-of-spec = tie.close (tie.spec returns (λ c κs. search rules) (λ c κs. search rules) (λ c κs. search rules) returns-2)
+pub step_of_spec : {M : Type 1} → statement M
+step_of_spec = tie.close (tie.spec returns (λ c κs. search rules) (λ c κs. search rules) (λ c κs. search rules) returns-2)

@@ -7,5 +7,5 @@ use Rattle.flush_core.proofs.parts.window_of.Tie as tie
 returns : tie.Need-returns
 returns c = c.used-window.ensures
 
-pub window-of-spec : {M : Type 1} → statement M
-window-of-spec = tie.close (tie.spec (λ c κs. search rules) returns)
+pub window_of_spec : {M : Type 1} → statement M
+window_of_spec = tie.close (tie.spec (λ c κs. search rules) returns)

@@ -7,13 +7,13 @@ use native.Mathlib.Omega.{arith}
 use borrow.Author.Rules.{rules}
 use lib.Dec.{leb}
 use lib.ListN.{length, drop}
-use Rattle.frames.specs.Outcomes.{lengthsOk}
-use Rattle.frames.specs.PartLaws.{lengths-step, lengths-bad, lengths-end}
+use Rattle.frames.specs.Outcomes.{lengths_ok}
+use Rattle.frames.specs.PartLaws.{lengths_step, lengths_bad, lengths_end}
 use Rattle.frames.proofs.lent.lengths_ok.Statement.{statement}
 use Rattle.frames.proofs.lent.lengths_ok.Tie as tie
 
 abbrev invariant-loop : tie.invariant-loop
-invariant-loop mtu lengths i₀ i = (i ≤ length lengths) × (lengthsOk mtu lengths ≡ lengthsOk mtu (drop i lengths))
+invariant-loop mtu lengths i₀ i = (i ≤ length lengths) × (lengths_ok mtu lengths ≡ lengths_ok mtu (drop i lengths))
 
 abbrev decreases-loop : tie.decreases-loop
 decreases-loop mtu lengths i₀ i = length lengths - i
@@ -24,21 +24,21 @@ loop-holds c = (omega arith, refl)
 loop-again : tie.Need-loop-preserved invariant-loop decreases-loop
 loop-again c = (
   omega arith,
-  c.before.before.before.before.loop.invariant.1 ∙ lengths-step
+  c.before.before.before.before.loop.invariant.1 ∙ lengths_step
       c.before.before.before.before.before.before.args.mtu c.before.before.before.before.before.before.args.lengths.now
       c.before.before.before.before.loop.i (search rules) (rw c.before.wide.ensures at c.if1.true),
 )
 
 returns : tie.Need-returns invariant-loop decreases-loop
-returns c = sym (c.before.before.before.before.loop.invariant.1 ∙ lengths-bad
+returns c = sym (c.before.before.before.before.loop.invariant.1 ∙ lengths_bad
     c.before.before.before.before.before.before.args.mtu c.before.before.before.before.before.before.args.lengths.now
     c.before.before.before.before.loop.i (search rules) (rw c.before.wide.ensures at c.if1.false))
 
 returns-2 : tie.Need-returns-2 invariant-loop decreases-loop
-returns-2 c = sym (c.before.loop.invariant.1 ∙ lengths-end _ _ _ c.loop-test.false)
+returns-2 c = sym (c.before.loop.invariant.1 ∙ lengths_end _ _ _ c.loop-test.false)
 
-pub lengths-ok-spec : {M : Type 1} → statement M
-lengths-ok-spec =
+pub lengths_ok_spec : {M : Type 1} → statement M
+lengths_ok_spec =
     tie.close
     (tie.spec
     invariant-loop

@@ -7,8 +7,8 @@ use Rattle.frames.proofs.lent.lent_ok.Tie as tie
 returns : tie.Need-returns
 returns c = rw c.packed.ensures
 
-pub lent-ok-spec : {M : Type 1} → statement M
-lent-ok-spec =
+pub lent_ok_spec : {M : Type 1} → statement M
+lent_ok_spec =
     tie.close
     (tie.spec
     (search rules)

@@ -5,7 +5,7 @@ use Prim.Native.Nat.{ℕ, ◌<◌}
 use borrow.Fn.Kinds.{In}
 use borrow.Fn.PlainCycle.{Measures, is, falls, and}
 use native.Mathlib.Omega.{arith}
-use Rattle.notation.specs.DecimalLaws.{decimal-low, decimal-more, length-low, length_more}
+use Rattle.notation.specs.DecimalLaws.{decimal_low, decimal_more, length_low, length_more}
 use Rattle.listing.specs.LineLaws.{added_then}
 use Rattle.listing.proofs.text.put_byte.Reads as put_byte
 use Rattle.listing.proofs.text.put_decimal.Reads as put-decimal
@@ -14,25 +14,25 @@ use Rattle.listing.proofs.text.+put_decimal.Lts-put_decimal as put-decimal-lts
 use Rattle.listing.proofs.text.+put_decimal.{statement}
 use Rattle.listing.proofs.text.+put_decimal.Tie.{close}
 
-abbrev μ-put-decimal : Measures 0 put-decimal-kinds.ps ℕ
-μ-put-decimal κs a = a.1.0
+abbrev μ_put_decimal : Measures 0 put-decimal-kinds.ps ℕ
+μ_put_decimal κs a = a.1.0
 
-abbrev put-decimal-at : ℕ → In 0 put-decimal-kinds.ps
-put-decimal-at t =
-    and 0 put-decimal-kinds.ps (is 0 put-decimal-kinds.ps μ-put-decimal t) put-decimal.Pre
+abbrev put_decimal_at : ℕ → In 0 put-decimal-kinds.ps
+put_decimal_at t =
+    and 0 put-decimal-kinds.ps (is 0 put-decimal-kinds.ps μ_put_decimal t) put-decimal.Pre
 
-abbrev put-decimal-below : ℕ → In 0 put-decimal-kinds.ps
-put-decimal-below t =
-    and 0 put-decimal-kinds.ps (falls 0 put-decimal-kinds.ps ◌<◌ μ-put-decimal t) put-decimal.Pre
+abbrev put_decimal_below : ℕ → In 0 put-decimal-kinds.ps
+put_decimal_below t =
+    and 0 put-decimal-kinds.ps (falls 0 put-decimal-kinds.ps ◌<◌ μ_put_decimal t) put-decimal.Pre
 
 pub +put-decimal-spec : {M : Type 1} → statement M
 +put-decimal-spec =
-    close μ-put-decimal λ t.
-    put-decimal-lts.spec (put_byte.Asked, put_byte.Learnt, put-decimal-below t, put-decimal.Post) (put-decimal-at t) put-decimal.Post
+    close μ_put_decimal λ t.
+    put-decimal-lts.spec (put_byte.Asked, put_byte.Learnt, put_decimal_below t, put-decimal.Post) (put_decimal_at t) put-decimal.Post
     (search rules)
     (search rules)
-    (λ c κs. omega (arith, length-low c.before.args.n (search rules), c.before.requires.1))
-    (λ c. rw (decimal-low c.before.before.args.n (search rules)) c.put_byte.ensures)
+    (λ c κs. omega (arith, length_low c.before.args.n (search rules), c.before.requires.1))
+    (λ c. rw (decimal_low c.before.before.args.n (search rules)) c.put_byte.ensures)
     (λ c κs. (omega (arith, c.before.requires.0), omega (arith, length_more c.before.args.n (search rules), c.before.requires.1)))
     (search rules)
     (search rules)
@@ -43,5 +43,5 @@ pub +put-decimal-spec : {M : Type 1} → statement M
       c.put-decimal.ensures.len,
     ))
     (λ c.
-    rw (decimal-more c.before.before.before.args.n (search rules))
+    rw (decimal_more c.before.before.before.args.n (search rules))
     (added_then _ _ _ _ _ c.before.put-decimal.ensures c.put-byte2.ensures))

@@ -20,8 +20,8 @@ returns c =
     (added_then _ _ _ _ _ (added_then _ _ _ _ _ first.put-field.ensures second.put-field2.ensures) third.put-field3.ensures)
     c.put-field4.ensures
 
-pub put-back-spec : {M : Type 1} → statement M
-put-back-spec =
+pub put_back_spec : {M : Type 1} → statement M
+put_back_spec =
     tie.close
     (tie.spec
     (search rules)

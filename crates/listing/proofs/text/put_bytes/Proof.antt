@@ -39,8 +39,8 @@ returns c =
     let l = c.before.loop in
     rw (take_all l.i c.before.before.before.args.s.now (omega arith)) at l.invariant.2
 
-pub put-bytes-spec : {M : Type 1} → statement M
-put-bytes-spec =
+pub put_bytes_spec : {M : Type 1} → statement M
+put_bytes_spec =
     tie.close
     (tie.spec
     invariant-loop

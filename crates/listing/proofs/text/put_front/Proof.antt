@@ -20,8 +20,8 @@ returns c =
     (added_then _ _ _ _ _ (added_then _ _ _ _ _ first.put-field.ensures second.put-field2.ensures) third.put-field3.ensures)
     c.put-field4.ensures
 
-pub put-front-spec : {M : Type 1} → statement M
-put-front-spec =
+pub put_front_spec : {M : Type 1} → statement M
+put_front_spec =
     tie.close
     (tie.spec
     (search rules)

@@ -7,8 +7,8 @@ use Rattle.notation.specs.PutLaws.{put_full}
 use Rattle.notation.proofs.put.byte.Statement.{statement}
 use Rattle.notation.proofs.put.byte.Tie as tie
 
-pub byte-spec : {M : Type 1} → statement M
-byte-spec =
+pub byte_spec : {M : Type 1} → statement M
+byte_spec =
     tie.close
     (tie.spec
     (search rules)

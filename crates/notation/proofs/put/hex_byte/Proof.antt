@@ -2,13 +2,13 @@
 -- Assumes nothing.
 use native.Mathlib.Omega.{arith}
 use borrow.Author.Rules.{rules}
-use Rattle.notation.specs.Hex.{hexOf}
-use Rattle.notation.specs.PutLaws.{put_then, put-length}
+use Rattle.notation.specs.Hex.{hex_of}
+use Rattle.notation.specs.PutLaws.{put_then, put_length}
 use Rattle.notation.proofs.put.hex_byte.Statement.{statement}
 use Rattle.notation.proofs.put.hex_byte.Tie as tie
 
 returns : tie.Need-returns
-unfolding hexOf
+unfolding hex_of
 returns c =
     let second = c.before.before in
     let first = second.before.before.before.before.before in
@@ -16,5 +16,5 @@ returns c =
     (rw first.before.hex-digit.ensures at first.byte.ensures)
     (rw second.before.hex-digit2.ensures at second.byte2.ensures)
 
-pub hex-byte-spec : {M : Type 1} → statement M
-hex-byte-spec = tie.close (tie.spec (search rules) (search rules) (search rules) (search rules) (search rules) returns)
+pub hex_byte_spec : {M : Type 1} → statement M
+hex_byte_spec = tie.close (tie.spec (search rules) (search rules) (search rules) (search rules) (search rules) returns)

@@ -6,8 +6,8 @@ use native.Mathlib.Omega.{arith}
 use borrow.Author.Rules.{rules}
 use lib.ListN.{length, get_or, drop, length-set}
 use lib.Seq.{sets}
-use Rattle.notation.specs.Hex.{hexValue, unhex}
-use Rattle.notation.specs.HexLaws.{decode-step, unhex-end}
+use Rattle.notation.specs.Hex.{hex_value, unhex}
+use Rattle.notation.specs.HexLaws.{decode_step, unhex_end}
 use Rattle.notation.proofs.read.decode.Statement.{statement}
 use Rattle.notation.proofs.read.decode.Tie as tie
 
@@ -27,18 +27,18 @@ loop-again c =
     let s = c.before.before.before.before.before.before.before.before.args.s.now in
     let first = c.before.before.hex-value in
     let second = c.hex-value2 in
-    let stored : 16 * first.result + second.result ≡ 16 * hexValue (get_or s (2 * l.i) 0) + hexValue (get_or s (2 * l.i + 1) 0) =
+    let stored : 16 * first.result + second.result ≡ 16 * hex_value (get_or s (2 * l.i) 0) + hex_value (get_or s (2 * l.i + 1) 0) =
     omega (arith, first.ensures.0, second.ensures.0) in
-    (omega arith, l.invariant.1, simp length-set l.invariant.2, decode-step s _ _ l.i _ (omega arith) stored l.invariant.3)
+    (omega arith, l.invariant.1, simp length-set l.invariant.2, decode_step s _ _ l.i _ (omega arith) stored l.invariant.3)
 
 returns : tie.Need-returns invariant-loop decreases-loop
 returns c =
     let l = c.before.loop in
     let s = c.before.before.before.before.args.s.now in
-    rw (unhex-end s l.i (omega arith)) at l.invariant.3
+    rw (unhex_end s l.i (omega arith)) at l.invariant.3
 
-pub decode-spec : {M : Type 1} → statement M
-decode-spec =
+pub decode_spec : {M : Type 1} → statement M
+decode_spec =
     tie.close
     (tie.spec
     invariant-loop

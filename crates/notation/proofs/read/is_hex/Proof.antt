@@ -8,30 +8,30 @@ use borrow.Author.Rules.{rules}
 use borrow.Author.Tests.{not-true, not-false, eq-eqb, ne_eqb}
 use lib.ListN.{length, drop}
 use Rattle.notation.specs.Words.{every}
-use Rattle.notation.specs.Hex.{isHexDigit, isHex}
-use Rattle.notation.specs.WordLaws.{every_more, every-stop, every-end}
+use Rattle.notation.specs.Hex.{is_hex_digit, is_hex}
+use Rattle.notation.specs.WordLaws.{every_more, every_stop, every_end}
 use Rattle.notation.proofs.read.is_hex.Statement.{statement}
 use Rattle.notation.proofs.read.is_hex.Tie as tie
 
 abbrev invariant-loop : tie.invariant-loop
-invariant-loop s i₀ i = (i ≤ length s) × (every isHexDigit s ≡ every isHexDigit (drop i s))
+invariant-loop s i₀ i = (i ≤ length s) × (every is_hex_digit s ≡ every is_hex_digit (drop i s))
 
 abbrev decreases-loop : tie.decreases-loop
 decreases-loop s i₀ i = length s - i
 
 returns : tie.Need-returns invariant-loop decreases-loop
-unfolding isHex
+unfolding is_hex
 returns c = rw (ne_eqb _ _ c.if1.true)
 
 loop-holds : tie.Need-loop-init invariant-loop decreases-loop
 loop-holds c = (omega arith, refl)
 
 returns-2 : tie.Need-returns-2 invariant-loop decreases-loop
-unfolding isHex
+unfolding is_hex
 returns-2 c =
     let l = c.before.before.before.before.loop in
     rw (
-      l.invariant.1 ∙ every-stop isHexDigit _ l.i (search rules) (sym c.before.is-hex-digit.ensures ∙ not-true _ c.if2.true),
+      l.invariant.1 ∙ every_stop is_hex_digit _ l.i (search rules) (sym c.before.is-hex-digit.ensures ∙ not-true _ c.if2.true),
       and-false,
     )
 
@@ -39,18 +39,18 @@ loop-again : tie.Need-loop-preserved invariant-loop decreases-loop
 loop-again c =
     let l = c.before.before.before.before.loop in (
       omega arith,
-      l.invariant.1 ∙ every_more isHexDigit _ l.i (search rules)
+      l.invariant.1 ∙ every_more is_hex_digit _ l.i (search rules)
           (sym c.before.is-hex-digit.ensures ∙ not-false _ c.if2.false),
     )
 
 returns-3 : tie.Need-returns-3 invariant-loop decreases-loop
-unfolding isHex
+unfolding is_hex
 returns-3 c =
     let l = c.before.loop in
-    rw (eq-eqb _ _ c.before.before.if1.false, l.invariant.1 ∙ every-end isHexDigit _ l.i c.loop-test.false)
+    rw (eq-eqb _ _ c.before.before.if1.false, l.invariant.1 ∙ every_end is_hex_digit _ l.i c.loop-test.false)
 
-pub is-hex-spec : {M : Type 1} → statement M
-is-hex-spec =
+pub is_hex_spec : {M : Type 1} → statement M
+is_hex_spec =
     tie.close
     (tie.spec
     invariant-loop

@@ -8,18 +8,18 @@ use borrow.Author.Rules.{rules}
 use borrow.Author.Tests.{not-true, not-false}
 use lib.ListN.{length, get_or, drop}
 use Rattle.notation.specs.Decimal.{value}
-use Rattle.notation.specs.Words.{isDigit, every}
+use Rattle.notation.specs.Words.{is_digit, every}
 use Rattle.notation.specs.WordLaws.{
-  is-empty,
-  has-zero,
-  no-digits,
+  is_empty,
+  has_zero,
+  no_digits,
   too_large,
   is_number,
   every_more,
-  every-stop,
-  every-end,
-  value-more,
-  value-end,
+  every_stop,
+  every_end,
+  value_more,
+  value_end,
   value_grows,
 }
 use Rattle.notation.proofs.read.number.Statement.{statement}
@@ -27,16 +27,16 @@ use Rattle.notation.proofs.read.number.Tie as tie
 
 abbrev invariant-loop : tie.invariant-loop
 invariant-loop s n₀ i₀ n i =
-    (i ≤ length s) × (n ≤ 4294967295) × (every isDigit s ≡ every isDigit (drop i s)) × (value 0 s ≡ value n (drop i s))
+    (i ≤ length s) × (n ≤ 4294967295) × (every is_digit s ≡ every is_digit (drop i s)) × (value 0 s ≡ value n (drop i s))
 
 abbrev decreases-loop : tie.decreases-loop
 decreases-loop s n₀ i₀ n i = length s - i
 
 returns : tie.Need-returns invariant-loop decreases-loop
-returns c = sym (is-empty _ c.if1.true)
+returns c = sym (is_empty _ c.if1.true)
 
 returns-2 : tie.Need-returns-2 invariant-loop decreases-loop
-returns-2 c = sym (has-zero _ (sym c.before.leading-zero.ensures ∙ c.if2.true))
+returns-2 c = sym (has_zero _ (sym c.before.leading-zero.ensures ∙ c.if2.true))
 
 loop-holds : tie.Need-loop-init invariant-loop decreases-loop
 loop-holds c = (omega arith, omega arith, refl, refl)
@@ -44,14 +44,14 @@ loop-holds c = (omega arith, omega arith, refl, refl)
 returns-3 : tie.Need-returns-3 invariant-loop decreases-loop
 returns-3 c =
     let l = c.before.before.before.before.loop in
-    sym (no-digits _ (l.invariant.2 ∙ every-stop isDigit _ l.i (search rules)
+    sym (no_digits _ (l.invariant.2 ∙ every_stop is_digit _ l.i (search rules)
     (sym c.before.is_digit.ensures ∙ not-true _ c.if3.true)))
 
 returns-4 : tie.Need-returns-4 invariant-loop decreases-loop
 returns-4 c =
     let l = c.before.before.before.before.before.before.loop in
     let s = c.before.before.before.before.before.before.before.before.before.before.before.args.s.now in
-    let more : value 0 s ≡ _ = l.invariant.3 ∙ value-more s l.i l.n (search rules) in
+    let more : value 0 s ≡ _ = l.invariant.3 ∙ value_more s l.i l.n (search rules) in
     sym (too_large _ (omega (
       arith,
       more,
@@ -64,22 +64,22 @@ loop-again c =
     let l = c.before.before.before.before.before.before.loop in (
       omega arith,
       omega arith,
-      l.invariant.2 ∙ every_more isDigit _ l.i (search rules)
+      l.invariant.2 ∙ every_more is_digit _ l.i (search rules)
           (sym c.before.before.before.is_digit.ensures ∙ not-false _ c.before.before.if3.false),
-      rw c.before.digit_value.ensures.0 (l.invariant.3 ∙ value-more _ l.i l.n (search rules)),
+      rw c.before.digit_value.ensures.0 (l.invariant.3 ∙ value_more _ l.i l.n (search rules)),
     )
 
 returns-5 : tie.Need-returns-5 invariant-loop decreases-loop
 returns-5 c =
     let l = c.before.loop in
     let s = c.before.before.before.before.before.before.args.s.now in
-    let all : value 0 s ≡ l.n = l.invariant.3 ∙ value-end s l.i l.n c.loop-test.false in
-    let digits = l.invariant.2 ∙ every-end isDigit s l.i c.loop-test.false in
+    let all : value 0 s ≡ l.n = l.invariant.3 ∙ value_end s l.i l.n c.loop-test.false in
+    let digits = l.invariant.2 ∙ every_end is_digit s l.i c.loop-test.false in
     let no_zero = sym c.before.before.before.leading-zero.ensures ∙ c.before.before.if2.false in
     sym (rw all at (is_number s (omega (arith, c.before.before.before.before.if1.false)) no_zero digits (omega (arith, all))))
 
-pub number-spec : {M : Type 1} → statement M
-number-spec =
+pub number_spec : {M : Type 1} → statement M
+number_spec =
     tie.close
     (tie.spec
     invariant-loop

@@ -9,43 +9,43 @@ use borrow.Author.Rules.{rules}
 use lib.ListN.{length, get_or, take, drop}
 use lib.Seq.{sets}
 use Rattle.rows.specs.Rows.{Row}
-use Rattle.frames.specs.Lists.{addUp, parts, lengthsOf, largest, every}
-use Rattle.frames.specs.Frames.{shard, shardAt, parityShard}
-use Rattle.frames.specs.Reading.{datagramAt, place_of, same, holds, len_at}
-use Rattle.frames.specs.PartLaws.{add-up-next, getD-largest, length_part}
-use Rattle.frames.specs.FrameLaws.{length-shard}
+use Rattle.frames.specs.Lists.{add_up, parts, lengths_of, largest, every}
+use Rattle.frames.specs.Frames.{shard, shard_at, parity_shard}
+use Rattle.frames.specs.Reading.{datagram_at, place_of, same, holds, len_at}
+use Rattle.frames.specs.PartLaws.{add_up_next, get_d_largest, length_part}
+use Rattle.frames.specs.FrameLaws.{length_shard}
 use Rattle.frames.specs.WeightLaws.{tail}
-use Rattle.parity_scan.specs.Held.{shardIn}
-use Rattle.parity_found.specs.Ready.{foundIn, datagramIn, lenIn}
-use Rattle.parity_found.specs.FoundLaws.{length_found, length-datagram, lens-least, lens-most, found_at, itself}
+use Rattle.parity_scan.specs.Held.{shard_in}
+use Rattle.parity_found.specs.Ready.{found_in, datagram_in, len_in}
+use Rattle.parity_found.specs.FoundLaws.{length_found, length_datagram, lens_least, lens_most, found_at, itself}
 use Rattle.parity_reader.specs.VerifyLaws.{
   same_step,
   same_stop,
   same_end,
   same_length,
-  same-equal,
-  made-data,
-  made-parity,
-  foundByte,
-  found-small,
+  same_equal,
+  made_data,
+  made_parity,
+  found_byte,
+  found_small,
   found_none,
-  found-next,
-  found-done,
-  every-done,
-  given-room,
-  given-long,
-  given-step,
-  given-stop,
+  found_next,
+  found_done,
+  every_done,
+  given_room,
+  given_long,
+  given_step,
+  given_stop,
   listed_found,
-  size-most,
+  size_most,
 }
-use Rattle.parity_reader.specs.OutputLaws.{Packed, packed_none, packed-next, packed-room, packed_all, behind-len}
+use Rattle.parity_reader.specs.OutputLaws.{Packed, packed_none, packed_next, packed_room, packed_all, behind_len}
 use Rattle.parity_reader.proofs.output.put_found.Statement.{statement}
 use Rattle.parity_reader.proofs.output.put_found.Tie as tie
 
 abbrev invariant-loop : tie.invariant-loop
 invariant-loop g s a b out₀ out-lengths₀ at₀ p₀ out out-lengths at p =
-    (p ≤ g.k) × Packed (datagramIn g s) g.mtu out₀ out-lengths₀ out out-lengths at p
+    (p ≤ g.k) × Packed (datagram_in g s) g.mtu out₀ out-lengths₀ out out-lengths at p
 
 abbrev decreases-loop : tie.decreases-loop
 decreases-loop g s a b out₀ out-lengths₀ at₀ p₀ out out-lengths at p = g.k - p
@@ -53,7 +53,7 @@ decreases-loop g s a b out₀ out-lengths₀ at₀ p₀ out out-lengths at p = g
 loop-holds : tie.Need-loop-init invariant-loop decreases-loop
 loop-holds c = (
   omega arith,
-  packed_none (datagramIn c.before.before.before.before.before.args.g
+  packed_none (datagram_in c.before.before.before.before.before.args.g
       c.before.before.before.before.before.args.s.now) c.before.before.before.before.before.args.g.mtu
       c.before.before.before.before.before.args.out.now c.before.before.before.before.before.args.out-lengths.now,
 )
@@ -68,27 +68,27 @@ trimmed-requires c κs = (
 sub-n : tie.Need-overflow-sub-n invariant-loop decreases-loop
 sub-n c =
     let z = ap length c.trimmed.ensures in
-    let y = length-shard (datagramIn c.before.before.before.before.before.before.before.before.before.args.g
+    let y = length_shard (datagram_in c.before.before.before.before.before.before.before.before.before.args.g
     c.before.before.before.before.before.before.before.before.before.args.s.now c.before.before.before.loop.p) in
     omega (arith, z, y)
 
 copy-part-requires : tie.Need-copy-part-requires invariant-loop decreases-loop
 copy-part-requires c κs =
     let z = ap length c.before.trimmed.ensures in
-    let y = length-shard (datagramIn c.before.before.before.before.before.before.before.before.before.before.args.g
+    let y = length_shard (datagram_in c.before.before.before.before.before.before.before.before.before.before.args.g
     c.before.before.before.before.before.before.before.before.before.before.args.s.now
     c.before.before.before.before.loop.p) in
-    let m = lens-most c.before.before.before.before.before.before.before.before.before.before.args.g.mtu
-    (datagramIn c.before.before.before.before.before.before.before.before.before.before.args.g
+    let m = lens_most c.before.before.before.before.before.before.before.before.before.before.args.g.mtu
+    (datagram_in c.before.before.before.before.before.before.before.before.before.before.args.g
     c.before.before.before.before.before.before.before.before.before.before.args.s.now)
     c.before.before.before.before.before.before.before.before.before.before.args.g.k
     c.before.before.before.before.loop.p (search rules)
     (listed_found c.before.before.before.before.before.before.before.before.before.before.args.g
     c.before.before.before.before.before.before.before.before.before.before.args.s.now
     c.before.before.before.before.before.before.before.before.before.before.requires.1) in
-    let r = packed-room c.before.before.before.before.before.before.before.before.before.before.args.g.mtu
+    let r = packed_room c.before.before.before.before.before.before.before.before.before.before.args.g.mtu
     c.before.before.before.before.loop.at c.before.before.before.before.loop.p
-    (length (datagramIn c.before.before.before.before.before.before.before.before.before.before.args.g
+    (length (datagram_in c.before.before.before.before.before.before.before.before.before.before.args.g
     c.before.before.before.before.before.before.before.before.before.before.args.s.now
     c.before.before.before.before.loop.p))
     c.before.before.before.before.before.before.before.before.before.before.args.g.k
@@ -101,17 +101,17 @@ copy-part-requires c κs =
 cast-out-lengths : tie.Need-overflow-cast-out-lengths invariant-loop decreases-loop
 cast-out-lengths c =
     let z = ap length c.before.before.before.before.trimmed.ensures in
-    let y = length-shard (datagramIn c.before.before.before.before.before.before.before.before.before.before.before.before.before.args.g c.before.before.before.before.before.before.before.before.before.before.before.before.before.args.s.now c.before.before.before.before.before.before.before.loop.p) in
-    let m = lens-most c.before.before.before.before.before.before.before.before.before.before.before.before.before.args.g.mtu (datagramIn c.before.before.before.before.before.before.before.before.before.before.before.before.before.args.g
+    let y = length_shard (datagram_in c.before.before.before.before.before.before.before.before.before.before.before.before.before.args.g c.before.before.before.before.before.before.before.before.before.before.before.before.before.args.s.now c.before.before.before.before.before.before.before.loop.p) in
+    let m = lens_most c.before.before.before.before.before.before.before.before.before.before.before.before.before.args.g.mtu (datagram_in c.before.before.before.before.before.before.before.before.before.before.before.before.before.args.g
     c.before.before.before.before.before.before.before.before.before.before.before.before.before.args.s.now)
     c.before.before.before.before.before.before.before.before.before.before.before.before.before.args.g.k
     c.before.before.before.before.before.before.before.loop.p (search rules)
     (listed_found c.before.before.before.before.before.before.before.before.before.before.before.before.before.args.g
     c.before.before.before.before.before.before.before.before.before.before.before.before.before.args.s.now
     c.before.before.before.before.before.before.before.before.before.before.before.before.before.requires.1) in
-    let r = packed-room c.before.before.before.before.before.before.before.before.before.before.before.before.before.args.g.mtu c.before.before.before.before.before.before.before.loop.at
+    let r = packed_room c.before.before.before.before.before.before.before.before.before.before.before.before.before.args.g.mtu c.before.before.before.before.before.before.before.loop.at
     c.before.before.before.before.before.before.before.loop.p
-    (length (datagramIn c.before.before.before.before.before.before.before.before.before.before.before.before.before.args.g
+    (length (datagram_in c.before.before.before.before.before.before.before.before.before.before.before.before.before.args.g
     c.before.before.before.before.before.before.before.before.before.before.before.before.before.args.s.now
     c.before.before.before.before.before.before.before.loop.p))
     c.before.before.before.before.before.before.before.before.before.before.before.before.before.args.g.k
@@ -139,17 +139,17 @@ slice-write-out-lengths c = omega (
 add_at : tie.Need-overflow-add-at invariant-loop decreases-loop
 add_at c =
     let z = ap length c.before.before.before.before.trimmed.ensures in
-    let y = length-shard (datagramIn c.before.before.before.before.before.before.before.before.before.before.before.before.before.args.g c.before.before.before.before.before.before.before.before.before.before.before.before.before.args.s.now c.before.before.before.before.before.before.before.loop.p) in
-    let m = lens-most c.before.before.before.before.before.before.before.before.before.before.before.before.before.args.g.mtu (datagramIn c.before.before.before.before.before.before.before.before.before.before.before.before.before.args.g
+    let y = length_shard (datagram_in c.before.before.before.before.before.before.before.before.before.before.before.before.before.args.g c.before.before.before.before.before.before.before.before.before.before.before.before.before.args.s.now c.before.before.before.before.before.before.before.loop.p) in
+    let m = lens_most c.before.before.before.before.before.before.before.before.before.before.before.before.before.args.g.mtu (datagram_in c.before.before.before.before.before.before.before.before.before.before.before.before.before.args.g
     c.before.before.before.before.before.before.before.before.before.before.before.before.before.args.s.now)
     c.before.before.before.before.before.before.before.before.before.before.before.before.before.args.g.k
     c.before.before.before.before.before.before.before.loop.p (search rules)
     (listed_found c.before.before.before.before.before.before.before.before.before.before.before.before.before.args.g
     c.before.before.before.before.before.before.before.before.before.before.before.before.before.args.s.now
     c.before.before.before.before.before.before.before.before.before.before.before.before.before.requires.1) in
-    let r = packed-room c.before.before.before.before.before.before.before.before.before.before.before.before.before.args.g.mtu c.before.before.before.before.before.before.before.loop.at
+    let r = packed_room c.before.before.before.before.before.before.before.before.before.before.before.before.before.args.g.mtu c.before.before.before.before.before.before.before.loop.at
     c.before.before.before.before.before.before.before.loop.p
-    (length (datagramIn c.before.before.before.before.before.before.before.before.before.before.before.before.before.args.g
+    (length (datagram_in c.before.before.before.before.before.before.before.before.before.before.before.before.before.args.g
     c.before.before.before.before.before.before.before.before.before.before.before.before.before.args.s.now
     c.before.before.before.before.before.before.before.loop.p))
     c.before.before.before.before.before.before.before.before.before.before.before.before.before.args.g.k
@@ -161,17 +161,17 @@ add_at c =
 
 loop-again : tie.Need-loop-preserved invariant-loop decreases-loop
 loop-again c =
-    let m = lens-most c.before.before.before.before.before.before.before.before.before.before.before.before.before.args.g.mtu (datagramIn c.before.before.before.before.before.before.before.before.before.before.before.before.before.args.g
+    let m = lens_most c.before.before.before.before.before.before.before.before.before.before.before.before.before.args.g.mtu (datagram_in c.before.before.before.before.before.before.before.before.before.before.before.before.before.args.g
     c.before.before.before.before.before.before.before.before.before.before.before.before.before.args.s.now)
     c.before.before.before.before.before.before.before.before.before.before.before.before.before.args.g.k
     c.before.before.before.before.before.before.before.loop.p (search rules)
     (listed_found c.before.before.before.before.before.before.before.before.before.before.before.before.before.args.g
     c.before.before.before.before.before.before.before.before.before.before.before.before.before.args.s.now
     c.before.before.before.before.before.before.before.before.before.before.before.before.before.requires.1) in
-    let b = behind-len (datagramIn c.before.before.before.before.before.before.before.before.before.before.before.before.before.args.g c.before.before.before.before.before.before.before.before.before.before.before.before.before.args.s.now c.before.before.before.before.before.before.before.loop.p) c.before.before.before.before.trimmed.result.now _
+    let b = behind_len (datagram_in c.before.before.before.before.before.before.before.before.before.before.before.before.before.args.g c.before.before.before.before.before.before.before.before.before.before.before.before.before.args.s.now c.before.before.before.before.before.before.before.loop.p) c.before.before.before.before.trimmed.result.now _
     c.before.before.before.before.trimmed.ensures refl in (
       omega arith,
-      packed-next (datagramIn c.before.before.before.before.before.before.before.before.before.before.before.before.before.args.g c.before.before.before.before.before.before.before.before.before.before.before.before.before.args.s.now) c.before.before.before.before.before.before.before.before.before.before.before.before.before.args.g.mtu
+      packed_next (datagram_in c.before.before.before.before.before.before.before.before.before.before.before.before.before.args.g c.before.before.before.before.before.before.before.before.before.before.before.before.before.args.s.now) c.before.before.before.before.before.before.before.before.before.before.before.before.before.args.g.mtu
           c.before.before.before.before.before.before.before.before.before.before.before.before.before.args.out.now
           c.before.before.before.before.before.before.before.before.before.before.before.before.before.args.out-lengths.now c.before.before.before.before.before.before.before.loop.out
           c.before.before.before.before.before.before.before.loop.out-lengths _
@@ -192,7 +192,7 @@ same-length-2 c = c.before.before.loop.invariant.1.slots
 returns : tie.Need-returns invariant-loop decreases-loop
 returns c =
     packed_all c.before.before.before.before.before.before.before.before.args.g.k
-    (shardIn c.before.before.before.before.before.before.before.before.args.s.now
+    (shard_in c.before.before.before.before.before.before.before.before.args.s.now
     c.before.before.before.before.before.before.before.before.args.g.held)
     c.before.before.before.before.before.before.before.before.args.g.mtu
     c.before.before.before.before.before.before.before.before.args.out.now
@@ -200,8 +200,8 @@ returns c =
     c.before.before.loop.out-lengths c.before.before.loop.at c.before.before.loop.p c.before.before.loop.invariant.1
     (omega arith)
 
-pub put-found-spec : {M : Type 1} → statement M
-put-found-spec =
+pub put_found_spec : {M : Type 1} → statement M
+put_found_spec =
     tie.close
     (tie.spec
     invariant-loop

@@ -8,71 +8,71 @@ use native.Mathlib.Omega.{arith}
 use borrow.Author.Rules.{rules}
 use lib.ListN.{length, get_or, take, drop}
 use lib.Seq.{sets, length-take-le}
-use Rattle.frames.specs.Lists.{addUp, parts, lengthsOf, largest, every}
-use Rattle.frames.specs.Frames.{shard, shardAt, parityShard}
+use Rattle.frames.specs.Lists.{add_up, parts, lengths_of, largest, every}
+use Rattle.frames.specs.Frames.{shard, shard_at, parity_shard}
 use Rattle.frames.specs.Reading.{place_of, same, holds}
-use Rattle.frames.specs.PartLaws.{add-up-next}
-use Rattle.parity_scan.specs.Held.{shardIn}
-use Rattle.parity_found.specs.Ready.{foundIn, datagramIn, lenIn}
+use Rattle.frames.specs.PartLaws.{add_up_next}
+use Rattle.parity_scan.specs.Held.{shard_in}
+use Rattle.parity_found.specs.Ready.{found_in, datagram_in, len_in}
 use Rattle.parity_found.specs.FoundLaws.{length_found, itself}
 use Rattle.parity_reader.specs.VerifyLaws.{
-  same-equal,
-  made-data,
-  made-parity,
+  same_equal,
+  made_data,
+  made_parity,
   row_fits,
-  row-prefix,
+  row_prefix,
   row_is,
-  most-small,
-  every-done,
-  given-room,
-  given-long,
-  given-step,
-  given-stop,
+  most_small,
+  every_done,
+  given_room,
+  given_long,
+  given_step,
+  given_stop,
 }
 use Rattle.parity_reader.proofs.verify.all_held.Statement.{statement}
 use Rattle.parity_reader.proofs.verify.all_held.Tie as tie
 
 abbrev invariant-loop : tie.invariant-loop
 invariant-loop g s lengths a b group most at₀ i₀ at i =
-    (i ≤ length lengths) × (at ≡ addUp (take i lengths))
-    × (every (holds g.k (group * (g.k + 2)) (foundIn g s)) (parts s lengths) ≡ every (holds g.k (group * (g.k + 2)) (foundIn g s))
+    (i ≤ length lengths) × (at ≡ add_up (take i lengths))
+    × (every (holds g.k (group * (g.k + 2)) (found_in g s)) (parts s lengths) ≡ every (holds g.k (group * (g.k + 2)) (found_in g s))
     (drop i (parts s lengths)))
 
 abbrev decreases-loop : tie.decreases-loop
 decreases-loop g s lengths a b group most at₀ i₀ at i = length lengths - i
 
 loop-holds : tie.Need-loop-init invariant-loop decreases-loop
-unfolding addUp
+unfolding add_up
 loop-holds c = (omega arith, refl, refl)
 
 shard-same-requires : tie.Need-shard-same-requires invariant-loop decreases-loop
 shard-same-requires c κs = (
   c.before.before.before.before.before.before.before.before.before.requires.0,
   c.before.before.before.before.before.before.before.before.before.requires.1,
-  given-room c.before.before.before.before.before.before.before.before.before.args.s.now
+  given_room c.before.before.before.before.before.before.before.before.before.args.s.now
       c.before.before.before.before.before.before.before.before.before.args.lengths.now
       c.before.before.before.before.before.before.before.before.before.args.g.k
       c.before.before.before.before.before.before.before.before.before.args.g.mtu
       c.before.before.before.before.before.before.before.before.before.args.group
-      (foundIn c.before.before.before.before.before.before.before.before.before.args.g
+      (found_in c.before.before.before.before.before.before.before.before.before.args.g
       c.before.before.before.before.before.before.before.before.before.args.s.now)
       c.before.before.before.before.before.before.before.before.before.requires.0.bytes
       (length_found c.before.before.before.before.before.before.before.before.before.args.g.k
-      (shardIn c.before.before.before.before.before.before.before.before.before.args.s.now
+      (shard_in c.before.before.before.before.before.before.before.before.before.args.s.now
       c.before.before.before.before.before.before.before.before.before.args.g.held))
       c.before.before.before.before.before.before.before.before.before.requires.2
       c.before.before.before.before.before.before.before.before.before.requires.3 c.before.before.before.loop.at
       c.before.before.before.loop.i c.wide.result c.before.before.before.loop.invariant.1 (search rules) c.wide.ensures,
-  given-long c.before.before.before.before.before.before.before.before.before.args.s.now
+  given_long c.before.before.before.before.before.before.before.before.before.args.s.now
       c.before.before.before.before.before.before.before.before.before.args.lengths.now
       c.before.before.before.before.before.before.before.before.before.args.g.k
       c.before.before.before.before.before.before.before.before.before.args.g.mtu
       c.before.before.before.before.before.before.before.before.before.args.group
-      (foundIn c.before.before.before.before.before.before.before.before.before.args.g
+      (found_in c.before.before.before.before.before.before.before.before.before.args.g
       c.before.before.before.before.before.before.before.before.before.args.s.now)
       c.before.before.before.before.before.before.before.before.before.requires.0.bytes
       (length_found c.before.before.before.before.before.before.before.before.before.args.g.k
-      (shardIn c.before.before.before.before.before.before.before.before.before.args.s.now
+      (shard_in c.before.before.before.before.before.before.before.before.before.args.s.now
       c.before.before.before.before.before.before.before.before.before.args.g.held))
       c.before.before.before.before.before.before.before.before.before.requires.2
       c.before.before.before.before.before.before.before.before.before.requires.3 c.before.before.before.loop.at
@@ -84,16 +84,16 @@ add_at : tie.Need-overflow-add-at invariant-loop decreases-loop
 add_at c = record {
   fits = omega (
     arith,
-    given-room c.before.before.before.before.before.before.before.before.before.before.before.args.s.now
+    given_room c.before.before.before.before.before.before.before.before.before.before.before.args.s.now
         c.before.before.before.before.before.before.before.before.before.before.before.args.lengths.now
         c.before.before.before.before.before.before.before.before.before.before.before.args.g.k
         c.before.before.before.before.before.before.before.before.before.before.before.args.g.mtu
         c.before.before.before.before.before.before.before.before.before.before.before.args.group
-        (foundIn c.before.before.before.before.before.before.before.before.before.before.before.args.g
+        (found_in c.before.before.before.before.before.before.before.before.before.before.before.args.g
         c.before.before.before.before.before.before.before.before.before.before.before.args.s.now)
         c.before.before.before.before.before.before.before.before.before.before.before.requires.0.bytes
         (length_found c.before.before.before.before.before.before.before.before.before.before.before.args.g.k
-        (shardIn c.before.before.before.before.before.before.before.before.before.before.before.args.s.now
+        (shard_in c.before.before.before.before.before.before.before.before.before.before.before.args.s.now
         c.before.before.before.before.before.before.before.before.before.before.before.args.g.held))
         c.before.before.before.before.before.before.before.before.before.before.before.requires.2
         c.before.before.before.before.before.before.before.before.before.before.before.requires.3
@@ -110,20 +110,20 @@ loop-again c = (
     arith,
     c.before.before.wide.ensures,
     c.before.before.before.before.before.loop.invariant.1,
-    add-up-next c.before.before.before.before.before.before.before.before.before.before.before.args.lengths.now
+    add_up_next c.before.before.before.before.before.before.before.before.before.before.before.args.lengths.now
         c.before.before.before.before.before.loop.i (search rules),
   ),
-  c.before.before.before.before.before.loop.invariant.2 ∙ given-step
+  c.before.before.before.before.before.loop.invariant.2 ∙ given_step
       c.before.before.before.before.before.before.before.before.before.before.before.args.s.now
       c.before.before.before.before.before.before.before.before.before.before.before.args.lengths.now
       c.before.before.before.before.before.before.before.before.before.before.before.args.g.k
       c.before.before.before.before.before.before.before.before.before.before.before.args.g.mtu
       c.before.before.before.before.before.before.before.before.before.before.before.args.group
-      (foundIn c.before.before.before.before.before.before.before.before.before.before.before.args.g
+      (found_in c.before.before.before.before.before.before.before.before.before.before.before.args.g
       c.before.before.before.before.before.before.before.before.before.before.before.args.s.now)
       c.before.before.before.before.before.before.before.before.before.before.before.requires.0.bytes
       (length_found c.before.before.before.before.before.before.before.before.before.before.before.args.g.k
-      (shardIn c.before.before.before.before.before.before.before.before.before.before.before.args.s.now
+      (shard_in c.before.before.before.before.before.before.before.before.before.before.before.args.s.now
       c.before.before.before.before.before.before.before.before.before.before.before.args.g.held))
       c.before.before.before.before.before.before.before.before.before.before.before.requires.2
       c.before.before.before.before.before.before.before.before.before.before.before.requires.3
@@ -133,17 +133,17 @@ loop-again c = (
 )
 
 returns : tie.Need-returns invariant-loop decreases-loop
-returns c = sym (c.before.before.before.before.before.loop.invariant.2 ∙ given-stop
+returns c = sym (c.before.before.before.before.before.loop.invariant.2 ∙ given_stop
     c.before.before.before.before.before.before.before.before.before.before.before.args.s.now
     c.before.before.before.before.before.before.before.before.before.before.before.args.lengths.now
     c.before.before.before.before.before.before.before.before.before.before.before.args.g.k
     c.before.before.before.before.before.before.before.before.before.before.before.args.g.mtu
     c.before.before.before.before.before.before.before.before.before.before.before.args.group
-    (foundIn c.before.before.before.before.before.before.before.before.before.before.before.args.g
+    (found_in c.before.before.before.before.before.before.before.before.before.before.before.args.g
     c.before.before.before.before.before.before.before.before.before.before.before.args.s.now)
     c.before.before.before.before.before.before.before.before.before.before.before.requires.0.bytes
     (length_found c.before.before.before.before.before.before.before.before.before.before.before.args.g.k
-    (shardIn c.before.before.before.before.before.before.before.before.before.before.before.args.s.now
+    (shard_in c.before.before.before.before.before.before.before.before.before.before.before.args.s.now
     c.before.before.before.before.before.before.before.before.before.before.before.args.g.held))
     c.before.before.before.before.before.before.before.before.before.before.before.requires.2
     c.before.before.before.before.before.before.before.before.before.before.before.requires.3
@@ -153,17 +153,17 @@ returns c = sym (c.before.before.before.before.before.loop.invariant.2 ∙ given
 
 returns-2 : tie.Need-returns-2 invariant-loop decreases-loop
 returns-2 c =
-    sym (c.before.loop.invariant.2 ∙ every-done
+    sym (c.before.loop.invariant.2 ∙ every_done
     (holds c.before.before.before.before.before.before.before.args.g.k
     (c.before.before.before.before.before.before.before.args.group *
     (c.before.before.before.before.before.before.before.args.g.k + 2))
-    (foundIn c.before.before.before.before.before.before.before.args.g
+    (found_in c.before.before.before.before.before.before.before.args.g
     c.before.before.before.before.before.before.before.args.s.now))
     c.before.before.before.before.before.before.before.args.s.now
     c.before.before.before.before.before.before.before.args.lengths.now c.before.loop.i c.loop-test.false)
 
-pub all-held-spec : {M : Type 1} → statement M
-all-held-spec =
+pub all_held_spec : {M : Type 1} → statement M
+all_held_spec =
     tie.close
     (tie.spec
     invariant-loop

@@ -8,26 +8,26 @@ use native.Mathlib.Omega.{arith}
 use borrow.Author.Rules.{rules}
 use lib.ListN.{length, get_or, take, drop}
 use lib.Seq.{sets, length-take-le}
-use Rattle.frames.specs.Lists.{addUp, parts, lengthsOf, largest, every}
-use Rattle.frames.specs.Frames.{shard, shardAt, parityShard}
+use Rattle.frames.specs.Lists.{add_up, parts, lengths_of, largest, every}
+use Rattle.frames.specs.Frames.{shard, shard_at, parity_shard}
 use Rattle.frames.specs.Reading.{place_of, same, holds}
-use Rattle.frames.specs.PartLaws.{add-up-next}
-use Rattle.parity_scan.specs.Held.{shardIn}
-use Rattle.parity_found.specs.Ready.{foundIn, datagramIn, lenIn}
+use Rattle.frames.specs.PartLaws.{add_up_next}
+use Rattle.parity_scan.specs.Held.{shard_in}
+use Rattle.parity_found.specs.Ready.{found_in, datagram_in, len_in}
 use Rattle.parity_found.specs.FoundLaws.{length_found, itself}
 use Rattle.parity_reader.specs.VerifyLaws.{
-  same-equal,
-  made-data,
-  made-parity,
+  same_equal,
+  made_data,
+  made_parity,
   row_fits,
-  row-prefix,
+  row_prefix,
   row_is,
-  most-small,
-  every-done,
-  given-room,
-  given-long,
-  given-step,
-  given-stop,
+  most_small,
+  every_done,
+  given_room,
+  given_long,
+  given_step,
+  given_stop,
 }
 use Rattle.parity_reader.proofs.verify.data_same.Statement.{statement}
 use Rattle.parity_reader.proofs.verify.data_same.Tie as tie
@@ -38,7 +38,7 @@ span a n = omega arith
 
 returns : tie.Need-returns
 returns c =
-    sym (same-equal _ _ (itself c.before.before.before.before.before.before.before.before.args.g
+    sym (same_equal _ _ (itself c.before.before.before.before.before.before.before.before.args.g
     c.before.before.before.before.before.before.before.before.args.s.now
     c.before.before.before.before.before.before.before.before.args.a.now
     c.before.before.before.before.before.before.before.before.args.b.now
@@ -49,8 +49,8 @@ returns c =
     c.before.before.before.before.before.before.before.before.requires.3
     c.before.before.before.before.before.before.before.before.requires.4 c.before.if1.true c.if2.true
     c.before.before.before.before.before.before.before.before.requires.1
-    ∙ made-data c.before.before.before.before.before.before.before.before.args.g.k
-    (shardIn c.before.before.before.before.before.before.before.before.args.s.now
+    ∙ made_data c.before.before.before.before.before.before.before.before.args.g.k
+    (shard_in c.before.before.before.before.before.before.before.before.args.s.now
     c.before.before.before.before.before.before.before.before.args.g.held)
     c.before.before.before.before.before.before.before.before.args.p
     c.before.before.before.before.before.before.before.before.requires.3))
@@ -69,13 +69,13 @@ returns-2 c =
     c.before.before.before.before.before.before.before.before.before.before.args.s.now))
     (span c.before.before.before.before.before.before.before.before.before.before.args.at
     c.before.before.before.before.before.before.before.before.before.before.args.n))
-    (c.before.trimmed.ensures ∙ made-data c.before.before.before.before.before.before.before.before.before.before.args.g.k (shardIn c.before.before.before.before.before.before.before.before.before.before.args.s.now
+    (c.before.trimmed.ensures ∙ made_data c.before.before.before.before.before.before.before.before.before.before.args.g.k (shard_in c.before.before.before.before.before.before.before.before.before.before.args.s.now
     c.before.before.before.before.before.before.before.before.before.before.args.g.held)
     c.before.before.before.before.before.before.before.before.before.before.args.p
     c.before.before.before.before.before.before.before.before.before.before.requires.3)
 
-pub data-same-spec : {M : Type 1} → statement M
-data-same-spec =
+pub data_same_spec : {M : Type 1} → statement M
+data_same_spec =
     tie.close
     (tie.spec
     (λ c. search rules)

@@ -9,42 +9,42 @@ use borrow.Author.Rules.{rules}
 use lib.ListN.{length, get_or, take, drop}
 use lib.Seq.{sets}
 use Rattle.rows.specs.Rows.{Row}
-use Rattle.frames.specs.Lists.{addUp, parts, lengthsOf, largest, every}
-use Rattle.frames.specs.Frames.{shard, shardAt, parityShard}
-use Rattle.frames.specs.Reading.{datagramAt, place_of, same, holds, len_at}
-use Rattle.frames.specs.PartLaws.{add-up-next, getD-largest, length_part}
-use Rattle.frames.specs.FrameLaws.{length-shard}
+use Rattle.frames.specs.Lists.{add_up, parts, lengths_of, largest, every}
+use Rattle.frames.specs.Frames.{shard, shard_at, parity_shard}
+use Rattle.frames.specs.Reading.{datagram_at, place_of, same, holds, len_at}
+use Rattle.frames.specs.PartLaws.{add_up_next, get_d_largest, length_part}
+use Rattle.frames.specs.FrameLaws.{length_shard}
 use Rattle.frames.specs.WeightLaws.{tail}
-use Rattle.parity_scan.specs.Held.{shardIn}
-use Rattle.parity_found.specs.Ready.{foundIn, datagramIn, lenIn}
-use Rattle.parity_found.specs.FoundLaws.{length_found, length-datagram, lens-least, lens-most, found_at, itself}
+use Rattle.parity_scan.specs.Held.{shard_in}
+use Rattle.parity_found.specs.Ready.{found_in, datagram_in, len_in}
+use Rattle.parity_found.specs.FoundLaws.{length_found, length_datagram, lens_least, lens_most, found_at, itself}
 use Rattle.parity_reader.specs.VerifyLaws.{
   same_step,
   same_stop,
   same_end,
   same_length,
-  same-equal,
-  made-data,
-  made-parity,
-  foundByte,
-  found-small,
+  same_equal,
+  made_data,
+  made_parity,
+  found_byte,
+  found_small,
   found_none,
-  found-next,
-  found-done,
-  every-done,
-  given-room,
-  given-long,
-  given-step,
-  given-stop,
+  found_next,
+  found_done,
+  every_done,
+  given_room,
+  given_long,
+  given_step,
+  given_stop,
   listed_found,
-  size-most,
+  size_most,
 }
-use Rattle.parity_reader.specs.OutputLaws.{Packed, packed_none, packed-next, packed-room, packed_all, behind-len}
+use Rattle.parity_reader.specs.OutputLaws.{Packed, packed_none, packed_next, packed_room, packed_all, behind_len}
 use Rattle.parity_reader.proofs.verify.parity_row.Statement.{statement}
 use Rattle.parity_reader.proofs.verify.parity_row.Tie as tie
 
 abbrev invariant-loop : tie.invariant-loop
-invariant-loop w g s a b row₀ p₀ row p = (p ≤ g.k) × Row (λ x. tail w (foundByte g s x) p g.k) (largest (lengthsOf (foundIn g s)) + 2) row
+invariant-loop w g s a b row₀ p₀ row p = (p ≤ g.k) × Row (λ x. tail w (found_byte g s x) p g.k) (largest (lengths_of (found_in g s)) + 2) row
 
 abbrev decreases-loop : tie.decreases-loop
 decreases-loop w g s a b row₀ p₀ row p = p
@@ -55,11 +55,11 @@ loop-holds c = (
   found_none c.before.before.before.before.before.before.before.before.args.w
       c.before.before.before.before.before.before.before.before.args.g
       c.before.before.before.before.before.before.before.before.args.s.now
-      (found-small c.before.before.before.before.before.before.before.before.args.g
+      (found_small c.before.before.before.before.before.before.before.before.args.g
       c.before.before.before.before.before.before.before.before.args.s.now
       c.before.before.before.before.before.before.before.before.requires.0.bytes)
       (length c.before.before.before.before.before.before.before.before.args.row.now)
-      (largest (lengthsOf (foundIn c.before.before.before.before.before.before.before.before.args.g
+      (largest (lengths_of (found_in c.before.before.before.before.before.before.before.before.args.g
       c.before.before.before.before.before.before.before.before.args.s.now)) + 2) _
       c.before.before.before.before.before.before.before.before.requires.2 c.before.before.clear.ensures,
 )
@@ -73,13 +73,13 @@ trimmed-requires c κs = (
 
 add-requires : tie.Need-add-requires invariant-loop decreases-loop
 add-requires c κs =
-    let m = size-most c.before.before.before.before.before.before.before.before.before.before.before.before.before.before.before.before.args.g c.before.before.before.before.before.before.before.before.before.before.before.before.before.before.before.before.args.s.now (c.before.before.before.before.before.before.before.loop.p - 1) (omega arith) in
+    let m = size_most c.before.before.before.before.before.before.before.before.before.before.before.before.before.before.before.before.args.g c.before.before.before.before.before.before.before.before.before.before.before.before.before.before.before.before.args.s.now (c.before.before.before.before.before.before.before.loop.p - 1) (omega arith) in
     let z = ap length c.before.before.before.before.before.trimmed.ensures in
     omega (
       arith,
       m,
       z,
-      length-shard (datagramIn
+      length_shard (datagram_in
           c.before.before.before.before.before.before.before.before.before.before.before.before.before.before.before.before.args.g c.before.before.before.before.before.before.before.before.before.before.before.before.before.before.before.before.args.s.now (c.before.before.before.before.before.before.before.loop.p - 1)),
       c.before.before.before.step.ensures.size,
       c.before.before.before.before.before.before.before.loop.invariant.1.size,
@@ -88,13 +88,13 @@ add-requires c κs =
 loop-again : tie.Need-loop-preserved invariant-loop decreases-loop
 loop-again c = (
   omega arith,
-  found-next c.before.before.before.before.before.before.before.before.before.before.before.before.before.before.before.before.before.before.before.args.w
+  found_next c.before.before.before.before.before.before.before.before.before.before.before.before.before.before.before.before.before.before.before.args.w
       c.before.before.before.before.before.before.before.before.before.before.before.before.before.before.before.before.before.before.before.args.g c.before.before.before.before.before.before.before.before.before.before.before.before.before.before.before.before.before.before.before.args.s.now
-      (found-small c.before.before.before.before.before.before.before.before.before.before.before.before.before.before.before.before.before.before.before.args.g
+      (found_small c.before.before.before.before.before.before.before.before.before.before.before.before.before.before.before.before.before.before.before.args.g
       c.before.before.before.before.before.before.before.before.before.before.before.before.before.before.before.before.before.before.before.args.s.now c.before.before.before.before.before.before.before.before.before.before.before.before.before.before.before.before.before.before.before.requires.0.bytes)
       c.before.before.before.before.before.before.before.before.before.before.loop.p
       (c.before.before.before.before.before.before.before.before.before.before.loop.p - 1)
-      (largest (lengthsOf (foundIn c.before.before.before.before.before.before.before.before.before.before.before.before.before.before.before.before.before.before.before.args.g
+      (largest (lengths_of (found_in c.before.before.before.before.before.before.before.before.before.before.before.before.before.before.before.before.before.before.before.args.g
       c.before.before.before.before.before.before.before.before.before.before.before.before.before.before.before.before.before.before.before.args.s.now)) + 2) _
       c.before.before.before.before.before.before.before.before.before.before.loop.row _ _
       (omega arith) (omega arith) c.before.before.before.before.before.before.before.before.trimmed.ensures
@@ -108,18 +108,18 @@ same-length-need c = c.before.loop.invariant.1.size ∙ sym
 
 returns : tie.Need-returns invariant-loop decreases-loop
 returns c =
-    found-done c.before.before.before.before.before.before.before.before.before.before.args.w
+    found_done c.before.before.before.before.before.before.before.before.before.before.args.w
     c.before.before.before.before.before.before.before.before.before.before.args.g
     c.before.before.before.before.before.before.before.before.before.before.args.s.now
-    (found-small c.before.before.before.before.before.before.before.before.before.before.args.g
+    (found_small c.before.before.before.before.before.before.before.before.before.before.args.g
     c.before.before.before.before.before.before.before.before.before.before.args.s.now
     c.before.before.before.before.before.before.before.before.before.before.requires.0.bytes) c.before.loop.p
-    (largest (lengthsOf (foundIn c.before.before.before.before.before.before.before.before.before.before.args.g
+    (largest (lengths_of (found_in c.before.before.before.before.before.before.before.before.before.before.args.g
     c.before.before.before.before.before.before.before.before.before.before.args.s.now)) + 2) c.before.loop.row
     c.loop-test.false refl c.before.loop.invariant.1
 
-pub parity-row-spec : {M : Type 1} → statement M
-parity-row-spec =
+pub parity_row_spec : {M : Type 1} → statement M
+parity_row_spec =
     tie.close
     (tie.spec
     invariant-loop

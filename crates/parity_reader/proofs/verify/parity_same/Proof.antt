@@ -8,26 +8,26 @@ use native.Mathlib.Omega.{arith}
 use borrow.Author.Rules.{rules}
 use lib.ListN.{length, get_or, take, drop}
 use lib.Seq.{sets, length-take-le}
-use Rattle.frames.specs.Lists.{addUp, parts, lengthsOf, largest, every}
-use Rattle.frames.specs.Frames.{shard, shardAt, parityShard}
+use Rattle.frames.specs.Lists.{add_up, parts, lengths_of, largest, every}
+use Rattle.frames.specs.Frames.{shard, shard_at, parity_shard}
 use Rattle.frames.specs.Reading.{place_of, same, holds}
-use Rattle.frames.specs.PartLaws.{add-up-next}
-use Rattle.parity_scan.specs.Held.{shardIn}
-use Rattle.parity_found.specs.Ready.{foundIn, datagramIn, lenIn}
+use Rattle.frames.specs.PartLaws.{add_up_next}
+use Rattle.parity_scan.specs.Held.{shard_in}
+use Rattle.parity_found.specs.Ready.{found_in, datagram_in, len_in}
 use Rattle.parity_found.specs.FoundLaws.{length_found, itself}
 use Rattle.parity_reader.specs.VerifyLaws.{
-  same-equal,
-  made-data,
-  made-parity,
+  same_equal,
+  made_data,
+  made_parity,
   row_fits,
-  row-prefix,
+  row_prefix,
   row_is,
-  most-small,
-  every-done,
-  given-room,
-  given-long,
-  given-step,
-  given-stop,
+  most_small,
+  every_done,
+  given_room,
+  given_long,
+  given_step,
+  given_stop,
 }
 use Rattle.parity_reader.proofs.verify.parity_same.Statement.{statement}
 use Rattle.parity_reader.proofs.verify.parity_same.Tie as tie
@@ -38,13 +38,13 @@ span a n = omega arith
 
 add-size : tie.Need-overflow-add-size
 add-size c =
-    let m = most-small c.before.before.before.before.args.g c.before.before.before.before.args.s.now
+    let m = most_small c.before.before.before.before.args.g c.before.before.before.before.args.s.now
     c.before.before.before.before.requires.1 in
     record { fits = omega (arith, m, c.before.before.before.before.requires.4, c.before.before.before.before.requires.0.small) }
 
 array-borrow-prefix-row : tie.Need-array-borrow-prefix-row
 array-borrow-prefix-row c =
-    let m = most-small c.before.before.before.before.before.args.g c.before.before.before.before.before.args.s.now
+    let m = most_small c.before.before.before.before.before.args.g c.before.before.before.before.before.args.s.now
     c.before.before.before.before.before.requires.1 in
     omega (
       arith,
@@ -56,7 +56,7 @@ array-borrow-prefix-row c =
 
 slice-aggregate-parity-row : tie.Need-slice-aggregate-parity-row
 slice-aggregate-parity-row c =
-    let m = most-small c.before.before.before.before.before.before.args.g
+    let m = most_small c.before.before.before.before.before.before.args.g
     c.before.before.before.before.before.before.args.s.now c.before.before.before.before.before.before.requires.1 in
     let l : c.before.before.before.before.before.before.args.most + 2 ≤ length c.before.before.blank.result =
     omega (
@@ -70,7 +70,7 @@ slice-aggregate-parity-row c =
 
 parity-row-requires : tie.Need-parity-row-requires
 parity-row-requires c κs =
-    let m = most-small c.before.before.before.before.before.before.args.g
+    let m = most_small c.before.before.before.before.before.before.args.g
     c.before.before.before.before.before.before.args.s.now c.before.before.before.before.before.before.requires.1 in
     let l : c.before.before.before.before.before.before.args.most + 2 ≤ length c.before.before.blank.result =
     omega (
@@ -88,15 +88,15 @@ parity-row-requires c κs =
 
 array-share-prefix-row : tie.Need-array-share-prefix-row
 array-share-prefix-row c = row_fits (c.before.before.before.before.before.before.before.before.before.args.most + 2)
-    (c.before.before.before.before.before.before.before.before.before.args.p - c.before.before.before.before.before.before.before.before.before.args.g.k) (foundIn c.before.before.before.before.before.before.before.before.before.args.g
+    (c.before.before.before.before.before.before.before.before.before.args.p - c.before.before.before.before.before.before.before.before.before.args.g.k) (found_in c.before.before.before.before.before.before.before.before.before.args.g
     c.before.before.before.before.before.before.before.before.before.args.s.now) _ _ c.before.before.parity-row.ensures
     (ap (λ (q : ℕ). q + 2) c.before.before.before.before.before.before.before.before.before.requires.4)
 
 slice-aggregate-same-bytes : tie.Need-slice-aggregate-same-bytes
-slice-aggregate-same-bytes c = row-prefix
+slice-aggregate-same-bytes c = row_prefix
     (c.before.before.before.before.before.before.before.before.before.before.args.most + 2)
     (c.before.before.before.before.before.before.before.before.before.before.args.p - c.before.before.before.before.before.before.before.before.before.before.args.g.k)
-    (foundIn c.before.before.before.before.before.before.before.before.before.before.args.g
+    (found_in c.before.before.before.before.before.before.before.before.before.before.args.g
     c.before.before.before.before.before.before.before.before.before.before.args.s.now) _ _
     c.before.before.before.parity-row.ensures
     (ap (λ (q : ℕ). q + 2) c.before.before.before.before.before.before.before.before.before.before.requires.4)
@@ -111,18 +111,18 @@ returns c =
     c.before.before.before.before.before.before.before.before.before.before.before.args.n))
     (row_is (c.before.before.before.before.before.before.before.before.before.before.before.args.most + 2)
     (c.before.before.before.before.before.before.before.before.before.before.before.args.p - c.before.before.before.before.before.before.before.before.before.before.before.args.g.k)
-    (foundIn c.before.before.before.before.before.before.before.before.before.before.before.args.g
+    (found_in c.before.before.before.before.before.before.before.before.before.before.before.args.g
     c.before.before.before.before.before.before.before.before.before.before.before.args.s.now) _ _
     c.before.before.before.before.parity-row.ensures
     (ap (λ (q : ℕ). q + 2) c.before.before.before.before.before.before.before.before.before.before.before.requires.4)
-    ∙ made-parity c.before.before.before.before.before.before.before.before.before.before.before.args.g.k
-    (shardIn c.before.before.before.before.before.before.before.before.before.before.before.args.s.now
+    ∙ made_parity c.before.before.before.before.before.before.before.before.before.before.before.args.g.k
+    (shard_in c.before.before.before.before.before.before.before.before.before.before.before.args.s.now
     c.before.before.before.before.before.before.before.before.before.before.before.args.g.held)
     c.before.before.before.before.before.before.before.before.before.before.before.args.p
     c.before.before.before.before.before.before.before.before.before.before.before.requires.3)
 
-pub parity-same-spec : {M : Type 1} → statement M
-parity-same-spec =
+pub parity_same_spec : {M : Type 1} → statement M
+parity_same_spec =
     tie.close
     (tie.spec
     (λ c κs. search rules)

@@ -9,37 +9,37 @@ use borrow.Author.Rules.{rules}
 use lib.ListN.{length, get_or, take, drop}
 use lib.Seq.{sets}
 use Rattle.rows.specs.Rows.{Row}
-use Rattle.frames.specs.Lists.{addUp, parts, lengthsOf, largest, every}
-use Rattle.frames.specs.Frames.{shard, shardAt, parityShard}
-use Rattle.frames.specs.Reading.{datagramAt, place_of, same, holds, len_at}
-use Rattle.frames.specs.PartLaws.{add-up-next, getD-largest, length_part}
-use Rattle.frames.specs.FrameLaws.{length-shard}
+use Rattle.frames.specs.Lists.{add_up, parts, lengths_of, largest, every}
+use Rattle.frames.specs.Frames.{shard, shard_at, parity_shard}
+use Rattle.frames.specs.Reading.{datagram_at, place_of, same, holds, len_at}
+use Rattle.frames.specs.PartLaws.{add_up_next, get_d_largest, length_part}
+use Rattle.frames.specs.FrameLaws.{length_shard}
 use Rattle.frames.specs.WeightLaws.{tail}
-use Rattle.parity_scan.specs.Held.{shardIn}
-use Rattle.parity_found.specs.Ready.{foundIn, datagramIn, lenIn}
-use Rattle.parity_found.specs.FoundLaws.{length_found, length-datagram, lens-least, lens-most, found_at, itself}
+use Rattle.parity_scan.specs.Held.{shard_in}
+use Rattle.parity_found.specs.Ready.{found_in, datagram_in, len_in}
+use Rattle.parity_found.specs.FoundLaws.{length_found, length_datagram, lens_least, lens_most, found_at, itself}
 use Rattle.parity_reader.specs.VerifyLaws.{
   same_step,
   same_stop,
   same_end,
   same_length,
-  same-equal,
-  made-data,
-  made-parity,
-  foundByte,
-  found-small,
+  same_equal,
+  made_data,
+  made_parity,
+  found_byte,
+  found_small,
   found_none,
-  found-next,
-  found-done,
-  every-done,
-  given-room,
-  given-long,
-  given-step,
-  given-stop,
+  found_next,
+  found_done,
+  every_done,
+  given_room,
+  given_long,
+  given_step,
+  given_stop,
   listed_found,
-  size-most,
+  size_most,
 }
-use Rattle.parity_reader.specs.OutputLaws.{Packed, packed_none, packed-next, packed-room, packed_all, behind-len}
+use Rattle.parity_reader.specs.OutputLaws.{Packed, packed_none, packed_next, packed_room, packed_all, behind_len}
 use Rattle.parity_reader.proofs.verify.same_bytes.Statement.{statement}
 use Rattle.parity_reader.proofs.verify.same_bytes.Tie as tie
 
@@ -75,8 +75,8 @@ returns-3 : tie.Need-returns-3 invariant-loop decreases-loop
 returns-3 c = sym (c.before.loop.invariant.1 ∙ same_end c.before.before.before.args.x.now c.before.before.before.args.y.now
     c.before.loop.i c.loop-test.false c.before.before.if1.false)
 
-pub same-bytes-spec : {M : Type 1} → statement M
-same-bytes-spec =
+pub same_bytes_spec : {M : Type 1} → statement M
+same_bytes_spec =
     tie.close
     (tie.spec
     invariant-loop

@@ -8,26 +8,26 @@ use native.Mathlib.Omega.{arith}
 use borrow.Author.Rules.{rules}
 use lib.ListN.{length, get_or, take, drop}
 use lib.Seq.{sets, length-take-le}
-use Rattle.frames.specs.Lists.{addUp, parts, lengthsOf, largest, every}
-use Rattle.frames.specs.Frames.{shard, shardAt, parityShard}
+use Rattle.frames.specs.Lists.{add_up, parts, lengths_of, largest, every}
+use Rattle.frames.specs.Frames.{shard, shard_at, parity_shard}
 use Rattle.frames.specs.Reading.{place_of, same, holds}
-use Rattle.frames.specs.PartLaws.{add-up-next}
-use Rattle.parity_scan.specs.Held.{shardIn}
-use Rattle.parity_found.specs.Ready.{foundIn, datagramIn, lenIn}
+use Rattle.frames.specs.PartLaws.{add_up_next}
+use Rattle.parity_scan.specs.Held.{shard_in}
+use Rattle.parity_found.specs.Ready.{found_in, datagram_in, len_in}
 use Rattle.parity_found.specs.FoundLaws.{length_found, itself}
 use Rattle.parity_reader.specs.VerifyLaws.{
-  same-equal,
-  made-data,
-  made-parity,
+  same_equal,
+  made_data,
+  made_parity,
   row_fits,
-  row-prefix,
+  row_prefix,
   row_is,
-  most-small,
-  every-done,
-  given-room,
-  given-long,
-  given-step,
-  given-stop,
+  most_small,
+  every_done,
+  given_room,
+  given_long,
+  given_step,
+  given_stop,
 }
 use Rattle.parity_reader.proofs.verify.shard_same.Statement.{statement}
 use Rattle.parity_reader.proofs.verify.shard_same.Tie as tie
@@ -54,7 +54,7 @@ returns c =
     ∙ ap (λ (q : ℕ). same (take (c.before.before.before.before.before.before.before.args.n - 6)
     (drop (c.before.before.before.before.before.before.before.args.at + 6)
     c.before.before.before.before.before.before.before.args.s.now))
-    (shardAt (foundIn c.before.before.before.before.before.before.before.args.g
+    (shard_at (found_in c.before.before.before.before.before.before.before.args.g
     c.before.before.before.before.before.before.before.args.s.now) q)) c.before.before.before.place_at.ensures.0
 
 parity-same-requires : tie.Need-parity-same-requires
@@ -72,11 +72,11 @@ returns-2 c =
     ∙ ap (λ (q : ℕ). same (take (c.before.before.before.before.before.before.before.args.n - 6)
     (drop (c.before.before.before.before.before.before.before.args.at + 6)
     c.before.before.before.before.before.before.before.args.s.now))
-    (shardAt (foundIn c.before.before.before.before.before.before.before.args.g
+    (shard_at (found_in c.before.before.before.before.before.before.before.args.g
     c.before.before.before.before.before.before.before.args.s.now) q)) c.before.before.before.place_at.ensures.0
 
-pub shard-same-spec : {M : Type 1} → statement M
-shard-same-spec =
+pub shard_same_spec : {M : Type 1} → statement M
+shard_same_spec =
     tie.close
     (tie.spec
     place-at-requires

@@ -7,17 +7,17 @@ use native.Mathlib.Omega.{arith}
 use borrow.Author.Rules.{rules}
 use lib.ListN.{length, length-set, take, drop, get_or}
 use lib.Seq.{sets}
-use Rattle.frames.specs.Lists.{addUp, largest, parts}
-use Rattle.frames.specs.PartLaws.{add-up-next, add-up-le, length_part, getD-largest}
+use Rattle.frames.specs.Lists.{add_up, largest, parts}
+use Rattle.frames.specs.PartLaws.{add_up_next, add_up_le, length_part, get_d_largest}
 use Rattle.parity_writer.specs.WriterLaws.{
-  data-stored,
-  parity-stored,
+  data_stored,
+  parity_stored,
   Filled,
   filled_none,
   filled_next,
-  filled-end,
-  group-bytes,
-  group-lengths,
+  filled_end,
+  group_bytes,
+  group_lengths,
 }
 use Rattle.parity_writer.proofs.data.put_all_data.Statement.{statement}
 use Rattle.parity_writer.proofs.data.put_all_data.Tie as tie
@@ -38,16 +38,16 @@ put-data-requires : tie.Need-put-data-requires invariant-loop decreases-loop
 put-data-requires c κs =
     let n : c.before.wide.result ≡ get_or c.before.before.before.before.before.before.before.before.before.args.lengths.now
     c.before.before.before.before.loop.p 0 = c.before.wide.ensures in
-    let r : c.before.before.before.before.loop.from ≡ addUp
+    let r : c.before.before.before.before.loop.from ≡ add_up
     (take c.before.before.before.before.loop.p
     c.before.before.before.before.before.before.before.before.before.args.lengths.now) = c.before.before.before.before.loop.invariant.read in
     let t : c.before.before.before.before.loop.at ≡ c.before.before.before.before.loop.from
     + 8 * c.before.before.before.before.loop.p = c.before.before.before.before.loop.invariant.place in
-    let a = add-up-next c.before.before.before.before.before.before.before.before.before.args.lengths.now
+    let a = add_up_next c.before.before.before.before.before.before.before.before.before.args.lengths.now
     c.before.before.before.before.loop.p (search rules) in
-    let u = add-up-le c.before.before.before.before.before.before.before.before.before.args.lengths.now
+    let u = add_up_le c.before.before.before.before.before.before.before.before.before.args.lengths.now
     (c.before.before.before.before.loop.p + 1) in
-    let g = getD-largest c.before.before.before.before.before.before.before.before.before.args.lengths.now
+    let g = get_d_largest c.before.before.before.before.before.before.before.before.before.args.lengths.now
     c.before.before.before.before.loop.p in
     (omega (arith, n, r, a, u), omega (arith, n, r, t, a, u, c.before.before.before.before.loop.invariant.room), omega (arith, n, g))
 
@@ -57,14 +57,14 @@ add-out-lengths c =
     c.before.before.before.before.before.before.before.before.before.before.before.before.before.args.lengths.now
     c.before.before.before.before.before.before.before.before.loop.p 0 =
     c.before.before.before.before.before.wide.ensures in
-    let r : c.before.before.before.before.before.before.before.before.loop.from ≡ addUp
+    let r : c.before.before.before.before.before.before.before.before.loop.from ≡ add_up
     (take c.before.before.before.before.before.before.before.before.loop.p
     c.before.before.before.before.before.before.before.before.before.before.before.before.before.args.lengths.now) = c.before.before.before.before.before.before.before.before.loop.invariant.read in
     let t : c.before.before.before.before.before.before.before.before.loop.at ≡ c.before.before.before.before.before.before.before.before.loop.from + 8 * c.before.before.before.before.before.before.before.before.loop.p =
     c.before.before.before.before.before.before.before.before.loop.invariant.place in
-    let a = add-up-next c.before.before.before.before.before.before.before.before.before.before.before.before.before.args.lengths.now c.before.before.before.before.before.before.before.before.loop.p (search rules) in
-    let u = add-up-le c.before.before.before.before.before.before.before.before.before.before.before.before.before.args.lengths.now (c.before.before.before.before.before.before.before.before.loop.p + 1) in
-    let g = getD-largest c.before.before.before.before.before.before.before.before.before.before.before.before.before.args.lengths.now c.before.before.before.before.before.before.before.before.loop.p in
+    let a = add_up_next c.before.before.before.before.before.before.before.before.before.before.before.before.before.args.lengths.now c.before.before.before.before.before.before.before.before.loop.p (search rules) in
+    let u = add_up_le c.before.before.before.before.before.before.before.before.before.before.before.before.before.args.lengths.now (c.before.before.before.before.before.before.before.before.loop.p + 1) in
+    let g = get_d_largest c.before.before.before.before.before.before.before.before.before.before.before.before.before.args.lengths.now c.before.before.before.before.before.before.before.before.loop.p in
     record { fits = omega (arith, g) }
 
 slice-write-out-lengths : tie.Need-slice-write-out-lengths invariant-loop decreases-loop
@@ -76,14 +76,14 @@ add-from c =
     c.before.before.before.before.before.before.before.before.before.before.before.before.before.args.lengths.now
     c.before.before.before.before.before.before.before.before.loop.p 0 =
     c.before.before.before.before.before.wide.ensures in
-    let r : c.before.before.before.before.before.before.before.before.loop.from ≡ addUp
+    let r : c.before.before.before.before.before.before.before.before.loop.from ≡ add_up
     (take c.before.before.before.before.before.before.before.before.loop.p
     c.before.before.before.before.before.before.before.before.before.before.before.before.before.args.lengths.now) = c.before.before.before.before.before.before.before.before.loop.invariant.read in
     let t : c.before.before.before.before.before.before.before.before.loop.at ≡ c.before.before.before.before.before.before.before.before.loop.from + 8 * c.before.before.before.before.before.before.before.before.loop.p =
     c.before.before.before.before.before.before.before.before.loop.invariant.place in
-    let a = add-up-next c.before.before.before.before.before.before.before.before.before.before.before.before.before.args.lengths.now c.before.before.before.before.before.before.before.before.loop.p (search rules) in
-    let u = add-up-le c.before.before.before.before.before.before.before.before.before.before.before.before.before.args.lengths.now (c.before.before.before.before.before.before.before.before.loop.p + 1) in
-    let g = getD-largest c.before.before.before.before.before.before.before.before.before.before.before.before.before.args.lengths.now c.before.before.before.before.before.before.before.before.loop.p in
+    let a = add_up_next c.before.before.before.before.before.before.before.before.before.before.before.before.before.args.lengths.now c.before.before.before.before.before.before.before.before.loop.p (search rules) in
+    let u = add_up_le c.before.before.before.before.before.before.before.before.before.before.before.before.before.args.lengths.now (c.before.before.before.before.before.before.before.before.loop.p + 1) in
+    let g = get_d_largest c.before.before.before.before.before.before.before.before.before.before.before.before.before.args.lengths.now c.before.before.before.before.before.before.before.before.loop.p in
     record { fits = omega (arith, n, r, a, u) }
 
 add_at : tie.Need-overflow-add-at invariant-loop decreases-loop
@@ -92,14 +92,14 @@ add_at c =
     c.before.before.before.before.before.before.before.before.before.before.before.before.before.args.lengths.now
     c.before.before.before.before.before.before.before.before.loop.p 0 =
     c.before.before.before.before.before.wide.ensures in
-    let r : c.before.before.before.before.before.before.before.before.loop.from ≡ addUp
+    let r : c.before.before.before.before.before.before.before.before.loop.from ≡ add_up
     (take c.before.before.before.before.before.before.before.before.loop.p
     c.before.before.before.before.before.before.before.before.before.before.before.before.before.args.lengths.now) = c.before.before.before.before.before.before.before.before.loop.invariant.read in
     let t : c.before.before.before.before.before.before.before.before.loop.at ≡ c.before.before.before.before.before.before.before.before.loop.from + 8 * c.before.before.before.before.before.before.before.before.loop.p =
     c.before.before.before.before.before.before.before.before.loop.invariant.place in
-    let a = add-up-next c.before.before.before.before.before.before.before.before.before.before.before.before.before.args.lengths.now c.before.before.before.before.before.before.before.before.loop.p (search rules) in
-    let u = add-up-le c.before.before.before.before.before.before.before.before.before.before.before.before.before.args.lengths.now (c.before.before.before.before.before.before.before.before.loop.p + 1) in
-    let g = getD-largest c.before.before.before.before.before.before.before.before.before.before.before.before.before.args.lengths.now c.before.before.before.before.before.before.before.before.loop.p in
+    let a = add_up_next c.before.before.before.before.before.before.before.before.before.before.before.before.before.args.lengths.now c.before.before.before.before.before.before.before.before.loop.p (search rules) in
+    let u = add_up_le c.before.before.before.before.before.before.before.before.before.before.before.before.before.args.lengths.now (c.before.before.before.before.before.before.before.before.loop.p + 1) in
+    let g = get_d_largest c.before.before.before.before.before.before.before.before.before.before.before.before.before.args.lengths.now c.before.before.before.before.before.before.before.before.loop.p in
     record { fits = omega (arith, n, g) }
 
 add-at-2 : tie.Need-overflow-add-at-2 invariant-loop decreases-loop
@@ -108,14 +108,14 @@ add-at-2 c =
     c.before.before.before.before.before.before.before.before.before.before.before.before.before.args.lengths.now
     c.before.before.before.before.before.before.before.before.loop.p 0 =
     c.before.before.before.before.before.wide.ensures in
-    let r : c.before.before.before.before.before.before.before.before.loop.from ≡ addUp
+    let r : c.before.before.before.before.before.before.before.before.loop.from ≡ add_up
     (take c.before.before.before.before.before.before.before.before.loop.p
     c.before.before.before.before.before.before.before.before.before.before.before.before.before.args.lengths.now) = c.before.before.before.before.before.before.before.before.loop.invariant.read in
     let t : c.before.before.before.before.before.before.before.before.loop.at ≡ c.before.before.before.before.before.before.before.before.loop.from + 8 * c.before.before.before.before.before.before.before.before.loop.p =
     c.before.before.before.before.before.before.before.before.loop.invariant.place in
-    let a = add-up-next c.before.before.before.before.before.before.before.before.before.before.before.before.before.args.lengths.now c.before.before.before.before.before.before.before.before.loop.p (search rules) in
-    let u = add-up-le c.before.before.before.before.before.before.before.before.before.before.before.before.before.args.lengths.now (c.before.before.before.before.before.before.before.before.loop.p + 1) in
-    let g = getD-largest c.before.before.before.before.before.before.before.before.before.before.before.before.before.args.lengths.now c.before.before.before.before.before.before.before.before.loop.p in
+    let a = add_up_next c.before.before.before.before.before.before.before.before.before.before.before.before.before.args.lengths.now c.before.before.before.before.before.before.before.before.loop.p (search rules) in
+    let u = add_up_le c.before.before.before.before.before.before.before.before.before.before.before.before.before.args.lengths.now (c.before.before.before.before.before.before.before.before.loop.p + 1) in
+    let g = get_d_largest c.before.before.before.before.before.before.before.before.before.before.before.before.before.args.lengths.now c.before.before.before.before.before.before.before.before.loop.p in
     record { fits = omega (arith, n, r, t, a, u) }
 
 loop-again : tie.Need-loop-preserved invariant-loop decreases-loop
@@ -143,7 +143,7 @@ same-length-2 c = c.before.loop.invariant.slots
 
 returns : tie.Need-returns invariant-loop decreases-loop
 returns c =
-    let f = filled-end c.before.before.before.before.before.before.args.start
+    let f = filled_end c.before.before.before.before.before.before.args.start
     c.before.before.before.before.before.before.args.s.now
     c.before.before.before.before.before.before.args.lengths.now
     c.before.before.before.before.before.before.args.out.now
@@ -152,8 +152,8 @@ returns c =
     c.loop-test.false in
     (f.0, (f.1, f.2))
 
-pub put-all-data-spec : {M : Type 1} → statement M
-put-all-data-spec =
+pub put_all_data_spec : {M : Type 1} → statement M
+put_all_data_spec =
     tie.close
     (tie.spec
     invariant-loop

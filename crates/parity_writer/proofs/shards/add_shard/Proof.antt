@@ -9,20 +9,20 @@ use borrow.Author.Rules.{rules}
 use lib.ListN.{length, length-set, take, drop, get_or}
 use lib.Seq.{sets}
 use Rattle.rows.specs.Rows.{Row}
-use Rattle.frames.specs.Lists.{addUp, largest, parts}
-use Rattle.frames.specs.PartLaws.{largest_step, largest-end, add-up-next, add-up-le, length_part, getD-largest}
+use Rattle.frames.specs.Lists.{add_up, largest, parts}
+use Rattle.frames.specs.PartLaws.{largest_step, largest_end, add_up_next, add_up_le, length_part, get_d_largest}
 use Rattle.frames.specs.WeightLaws.{tail}
 use Rattle.parity_writer.specs.WriterLaws.{
-  data-stored,
-  parity-stored,
+  data_stored,
+  parity_stored,
   Filled,
   filled_none,
   filled_next,
-  filled-end,
-  group-bytes,
-  group-lengths,
+  filled_end,
+  group_bytes,
+  group_lengths,
 }
-use Rattle.parity_writer.specs.ShardLaws.{shard-added, shardByte, parity-none, parity-next, parity-done}
+use Rattle.parity_writer.specs.ShardLaws.{shard_added, shard_byte, parity_none, parity_next, parity_done}
 use Rattle.parity_writer.proofs.shards.add_shard.Statement.{statement}
 use Rattle.parity_writer.proofs.shards.add_shard.Tie as tie
 
@@ -51,7 +51,7 @@ same_length c = c.before.before.add3.ensures.size ∙ simp length-set
 
 returns : tie.Need-returns
 returns c =
-    shard-added c.before.before.before.before.before.before.before.before.before.before.before.args.row.now
+    shard_added c.before.before.before.before.before.before.before.before.before.before.before.args.row.now
     (take c.before.before.before.before.before.before.before.before.before.before.before.args.n
     (drop c.before.before.before.before.before.before.before.before.before.before.before.args.from
     c.before.before.before.before.before.before.before.before.before.before.before.args.s.now))
@@ -65,8 +65,8 @@ returns c =
     c.before.before.before.before.before.before.before.before.before.before.before.args.n) at
     c.before.before.add3.ensures)
 
-pub add-shard-spec : {M : Type 1} → statement M
-add-shard-spec =
+pub add_shard_spec : {M : Type 1} → statement M
+add_shard_spec =
     tie.close
     (tie.spec
     (λ c. search rules)

@@ -9,20 +9,20 @@ use borrow.Author.Rules.{rules}
 use lib.ListN.{length, length-set, take, drop, get_or}
 use lib.Seq.{sets}
 use Rattle.rows.specs.Rows.{Row}
-use Rattle.frames.specs.Lists.{addUp, largest, parts}
-use Rattle.frames.specs.PartLaws.{largest_step, largest-end, add-up-next, add-up-le, length_part, getD-largest}
+use Rattle.frames.specs.Lists.{add_up, largest, parts}
+use Rattle.frames.specs.PartLaws.{largest_step, largest_end, add_up_next, add_up_le, length_part, get_d_largest}
 use Rattle.frames.specs.WeightLaws.{tail}
 use Rattle.parity_writer.specs.WriterLaws.{
-  data-stored,
-  parity-stored,
+  data_stored,
+  parity_stored,
   Filled,
   filled_none,
   filled_next,
-  filled-end,
-  group-bytes,
-  group-lengths,
+  filled_end,
+  group_bytes,
+  group_lengths,
 }
-use Rattle.parity_writer.specs.ShardLaws.{shard-added, shardByte, parity-none, parity-next, parity-done}
+use Rattle.parity_writer.specs.ShardLaws.{shard_added, shard_byte, parity_none, parity_next, parity_done}
 use Rattle.parity_writer.proofs.shards.largest_of.Statement.{statement}
 use Rattle.parity_writer.proofs.shards.largest_of.Tie as tie
 
@@ -41,10 +41,10 @@ loop-again c =
     ⊎_elim (λ w. (omega arith, omega (arith, s))) (λ w. (omega arith, omega (arith, s))) c.if1.branch
 
 returns : tie.Need-returns invariant-loop decreases-loop
-returns c = omega (arith, largest-end c.before.before.args.lengths.now c.before.loop.i c.loop-test.false)
+returns c = omega (arith, largest_end c.before.before.args.lengths.now c.before.loop.i c.loop-test.false)
 
-pub largest-of-spec : {M : Type 1} → statement M
-largest-of-spec =
+pub largest_of_spec : {M : Type 1} → statement M
+largest_of_spec =
     tie.close
     (tie.spec
     invariant-loop

@@ -9,26 +9,26 @@ use borrow.Author.Rules.{rules}
 use lib.ListN.{length, length-set, take, drop, get_or}
 use lib.Seq.{sets, take_all}
 use Rattle.rows.specs.Rows.{Row}
-use Rattle.frames.specs.Lists.{addUp, largest, parts}
-use Rattle.frames.specs.PartLaws.{largest_step, largest-end, add-up-next, add-up-le, length_part, getD-largest}
+use Rattle.frames.specs.Lists.{add_up, largest, parts}
+use Rattle.frames.specs.PartLaws.{largest_step, largest_end, add_up_next, add_up_le, length_part, get_d_largest}
 use Rattle.frames.specs.WeightLaws.{tail}
 use Rattle.parity_writer.specs.WriterLaws.{
-  data-stored,
-  parity-stored,
+  data_stored,
+  parity_stored,
   Filled,
   filled_none,
   filled_next,
-  filled-end,
-  group-bytes,
-  group-lengths,
+  filled_end,
+  group_bytes,
+  group_lengths,
 }
-use Rattle.parity_writer.specs.ShardLaws.{add-up-back, shard-added, shardByte, parity-none, parity-next, parity-done}
+use Rattle.parity_writer.specs.ShardLaws.{add_up_back, shard_added, shard_byte, parity_none, parity_next, parity_done}
 use Rattle.parity_writer.proofs.shards.parity_row.Statement.{statement}
 use Rattle.parity_writer.proofs.shards.parity_row.Tie as tie
 
 abbrev invariant-loop : tie.invariant-loop
 invariant-loop w s lengths total row₀ from₀ p₀ row from p =
-    (p ≤ length lengths) × (from ≡ addUp (take p lengths)) × Row (λ x. tail w (shardByte s lengths x) p (length lengths))
+    (p ≤ length lengths) × (from ≡ add_up (take p lengths)) × Row (λ x. tail w (shard_byte s lengths x) p (length lengths))
     (largest lengths + 2) row
 
 abbrev decreases-loop : tie.decreases-loop
@@ -37,10 +37,10 @@ decreases-loop w s lengths total row₀ from₀ p₀ row from p = p
 loop-holds : tie.Need-loop-init invariant-loop decreases-loop
 loop-holds c = (
   omega arith,
-  c.before.before.before.before.before.before.before.requires.0 ∙ ap addUp
+  c.before.before.before.before.before.before.before.requires.0 ∙ ap add_up
       (sym (take_all (length c.before.before.before.before.before.before.before.args.lengths.now)
       c.before.before.before.before.before.before.before.args.lengths.now (omega arith))),
-  parity-none c.before.before.before.before.before.before.before.args.w
+  parity_none c.before.before.before.before.before.before.before.args.w
       c.before.before.before.before.before.before.before.args.s.now
       c.before.before.before.before.before.before.before.args.lengths.now
       (λ i. omega (arith, c.before.before.before.before.before.before.shared-slice-known.given i))
@@ -54,7 +54,7 @@ sub-from c = omega (
   arith,
   c.wide.ensures,
   c.before.before.before.loop.invariant.1,
-  add-up-back c.before.before.before.before.before.before.before.before.before.before.before.args.lengths.now
+  add_up_back c.before.before.before.before.before.before.before.before.before.before.before.args.lengths.now
       c.before.before.before.loop.p (omega arith) (omega arith),
 )
 
@@ -63,10 +63,10 @@ step-requires c κs = search rules
 
 add-shard-requires : tie.Need-add-shard-requires invariant-loop decreases-loop
 add-shard-requires c κs =
-    let b = add-up-back c.before.before.before.before.before.before.before.before.before.before.before.before.before.before.before.before.args.lengths.now c.before.before.before.before.before.before.before.before.loop.p (omega arith)
+    let b = add_up_back c.before.before.before.before.before.before.before.before.before.before.before.before.before.before.before.before.args.lengths.now c.before.before.before.before.before.before.before.before.loop.p (omega arith)
     (omega arith) in
-    let u = add-up-le c.before.before.before.before.before.before.before.before.before.before.before.before.before.before.before.before.args.lengths.now c.before.before.before.before.before.before.before.before.loop.p in
-    let g = getD-largest c.before.before.before.before.before.before.before.before.before.before.before.before.before.before.before.before.args.lengths.now (c.before.before.before.before.before.before.before.before.loop.p - 1) in (
+    let u = add_up_le c.before.before.before.before.before.before.before.before.before.before.before.before.before.before.before.before.args.lengths.now c.before.before.before.before.before.before.before.before.loop.p in
+    let g = get_d_largest c.before.before.before.before.before.before.before.before.before.before.before.before.before.before.before.before.args.lengths.now (c.before.before.before.before.before.before.before.before.loop.p - 1) in (
       omega (
         arith,
         c.before.before.before.before.before.wide.ensures,
@@ -86,9 +86,9 @@ add-shard-requires c κs =
 
 loop-again : tie.Need-loop-preserved invariant-loop decreases-loop
 loop-again c =
-    let b = add-up-back c.before.before.before.before.before.before.before.before.before.before.before.before.before.before.before.before.before.before.before.args.lengths.now
+    let b = add_up_back c.before.before.before.before.before.before.before.before.before.before.before.before.before.before.before.before.before.before.before.args.lengths.now
     c.before.before.before.before.before.before.before.before.before.before.before.loop.p (omega arith) (omega arith) in
-    let f : c.before.before.before.before.before.before.before.before.before.before.before.loop.from - c.before.before.before.before.before.before.before.before.wide.result ≡ addUp
+    let f : c.before.before.before.before.before.before.before.before.before.before.before.loop.from - c.before.before.before.before.before.before.before.before.wide.result ≡ add_up
     (take (c.before.before.before.before.before.before.before.before.before.before.before.loop.p - 1)
     c.before.before.before.before.before.before.before.before.before.before.before.before.before.before.before.before.before.before.before.args.lengths.now) = omega (
       arith,
@@ -98,7 +98,7 @@ loop-again c =
     ) in (
       omega arith,
       f,
-      parity-next c.before.before.before.before.before.before.before.before.before.before.before.before.before.before.before.before.before.before.before.args.w
+      parity_next c.before.before.before.before.before.before.before.before.before.before.before.before.before.before.before.before.before.before.before.args.w
           c.before.before.before.before.before.before.before.before.before.before.before.before.before.before.before.before.before.before.before.args.s.now c.before.before.before.before.before.before.before.before.before.before.before.before.before.before.before.before.before.before.before.args.lengths.now
           (λ i. omega (
             arith,
@@ -120,14 +120,14 @@ same_length c = c.before.loop.invariant.2.size ∙ sym c.before.before.before.be
 
 returns : tie.Need-returns invariant-loop decreases-loop
 returns c =
-    parity-done c.before.before.before.before.before.before.before.before.before.args.w
+    parity_done c.before.before.before.before.before.before.before.before.before.args.w
     c.before.before.before.before.before.before.before.before.before.args.s.now
     c.before.before.before.before.before.before.before.before.before.args.lengths.now
     (λ i. omega (arith, c.before.before.before.before.before.before.before.before.shared-slice-known.given i))
     c.before.loop.p c.before.loop.row (search rules) c.loop-test.false c.before.loop.invariant.2
 
-pub parity-row-spec : {M : Type 1} → statement M
-parity-row-spec =
+pub parity_row_spec : {M : Type 1} → statement M
+parity_row_spec =
     tie.close
     (tie.spec
     invariant-loop

@@ -2,13 +2,13 @@
 -- Assumes nothing.
 use mathlib.Core.Path.{◌∙◌}
 use borrow.Author.Rules.{rules}
-use Rattle.parity_writer.specs.WriterLaws.{parity-lent}
+use Rattle.parity_writer.specs.WriterLaws.{parity_lent}
 use Rattle.parity_writer.proofs.shards.put_parity.Statement.{statement}
 use Rattle.parity_writer.proofs.shards.put_parity.Tie as tie
 
 returns : tie.Need-returns
 returns c =
-    parity-lent c.before.before.before.before.before.before.before.before.before.before.before.before.before.before.before.before.before.args.sequence c.before.before.before.before.before.before.before.before.before.before.before.before.before.before.before.before.before.args.at
+    parity_lent c.before.before.before.before.before.before.before.before.before.before.before.before.before.before.before.before.before.args.sequence c.before.before.before.before.before.before.before.before.before.before.before.before.before.before.before.before.before.args.at
     c.before.before.before.before.before.before.before.before.before.before.before.before.before.before.before.before.before.args.w c.before.before.before.before.before.before.before.before.before.before.before.before.wide.result
     c.before.before.before.before.before.before.before.before.before.before.before.before.before.before.before.before.before.args.s.now c.before.before.before.before.before.before.before.before.before.before.before.before.before.before.before.before.before.args.lengths.now
     c.before.before.before.before.before.before.before.before.before.before.before.before.before.before.before.before.before.args.out.now _ _ _
@@ -16,8 +16,8 @@ returns c =
     (search rules) c.before.before.before.before.before.before.before.before.before.before.put-u32.ensures
     c.before.before.before.before.before.before.put-u16.ensures c.before.before.parity-row.ensures
 
-pub put-parity-spec : {M : Type 1} → statement M
-put-parity-spec =
+pub put_parity_spec : {M : Type 1} → statement M
+put_parity_spec =
     tie.close
     (tie.spec
     (λ c κs. search rules)

@@ -21,5 +21,5 @@ returns-2 c = rw (
   signed_high _ c.if1.false,
 )
 
-pub read-signed-spec : {M : Type 1} → statement M
-read-signed-spec = tie.close (tie.spec (search rules) (search rules) sub-result returns returns-2)
+pub read_signed_spec : {M : Type 1} → statement M
+read_signed_spec = tie.close (tie.spec (search rules) (search rules) sub-result returns returns-2)

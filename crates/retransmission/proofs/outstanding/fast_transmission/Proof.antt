@@ -7,5 +7,5 @@ use Rattle.retransmission.proofs.outstanding.fast_transmission.Tie as tie
 returns : tie.Need-returns
 returns c = rw c.sum.ensures
 
-pub fast-transmission-spec : {M : Type 1} → statement M
-fast-transmission-spec = tie.close (tie.spec (search rules) returns)
+pub fast_transmission_spec : {M : Type 1} → statement M
+fast_transmission_spec = tie.close (tie.spec (search rules) returns)

@@ -7,5 +7,5 @@ use Rattle.retransmission.proofs.outstanding.first_transmission.Tie as tie
 returns : tie.Need-returns
 returns c = rw c.first-due.ensures
 
-pub first-transmission-spec : {M : Type 1} → statement M
-first-transmission-spec = tie.close (tie.spec (search rules) returns)
+pub first_transmission_spec : {M : Type 1} → statement M
+first_transmission_spec = tie.close (tie.spec (search rules) returns)

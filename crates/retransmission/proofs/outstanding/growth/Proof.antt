@@ -18,5 +18,5 @@ returns-3 : tie.Need-returns-3
 unfolding growth
 returns-3 c = rw (ne_eqb _ _ c.before.if1.false, ne_eqb _ _ c.if2.false)
 
-pub growth-spec : {M : Type 1} → statement M
-growth-spec = tie.close (tie.spec (search rules) returns returns-2 returns-3)
+pub growth_spec : {M : Type 1} → statement M
+growth_spec = tie.close (tie.spec (search rules) returns returns-2 returns-3)

@@ -7,5 +7,5 @@ use Rattle.retransmission.proofs.outstanding.sending.Tie as tie
 returns : tie.Need-returns
 returns c = rw c.counted.ensures
 
-pub sending-spec : {M : Type 1} → statement M
-sending-spec = tie.close (tie.spec (search rules) returns)
+pub sending_spec : {M : Type 1} → statement M
+sending_spec = tie.close (tie.spec (search rules) returns)

@@ -7,5 +7,5 @@ use Rattle.retransmission.proofs.outstanding.skipped.Tie as tie
 returns : tie.Need-returns
 returns c = rw c.sum_to.ensures
 
-pub skipped-spec : {M : Type 1} → statement M
-skipped-spec = tie.close (tie.spec (search rules) returns)
+pub skipped_spec : {M : Type 1} → statement M
+skipped_spec = tie.close (tie.spec (search rules) returns)

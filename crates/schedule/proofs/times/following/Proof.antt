@@ -13,5 +13,5 @@ returns-2 : tie.Need-returns-2
 unfolding following
 returns-2 c = rw (← c.before.before.sum.ensures, ← c.before.due.ensures, c.if1.false)
 
-pub following-spec : {M : Type 1} → statement M
-following-spec = tie.close (tie.spec (search rules) (search rules) (search rules) returns returns-2)
+pub following_spec : {M : Type 1} → statement M
+following_spec = tie.close (tie.spec (search rules) (search rules) (search rules) returns returns-2)

@@ -6,7 +6,7 @@ use native.Mathlib.Omega.{arith}
 use borrow.Author.Rules.{rules}
 use lib.ListN.{length, drop}
 use Rattle.script.specs.Commands.{letters, name_of}
-use Rattle.script.specs.CommandLaws.{letters-next, letters-many, letters-end}
+use Rattle.script.specs.CommandLaws.{letters_next, letters_many, letters_end}
 use Rattle.script.proofs.words.name.Statement.{statement}
 use Rattle.script.proofs.words.name.Tie as tie
 
@@ -26,21 +26,21 @@ returns : tie.Need-returns invariant-loop decreases-loop
 returns c =
     let l = c.before.before.before.loop in
     let w = c.before.before.before.before.args.word.now in
-    sym (l.invariant.2 ∙ letters-many w l.i l.n (omega arith) (omega arith))
+    sym (l.invariant.2 ∙ letters_many w l.i l.n (omega arith) (omega arith))
 
 loop-again : tie.Need-loop-preserved invariant-loop decreases-loop
 loop-again c =
     let l = c.before.before.before.loop in
     let w = c.before.before.before.before.args.word.now in
-    (omega arith, omega arith, l.invariant.2 ∙ letters-next w l.i l.n (omega arith) (omega arith))
+    (omega arith, omega arith, l.invariant.2 ∙ letters_next w l.i l.n (omega arith) (omega arith))
 
 returns-2 : tie.Need-returns-2 invariant-loop decreases-loop
 returns-2 c =
     let l = c.before.loop in
-    sym (l.invariant.2 ∙ letters-end _ l.i l.n (omega arith))
+    sym (l.invariant.2 ∙ letters_end _ l.i l.n (omega arith))
 
-pub name-spec : {M : Type 1} → statement M
-name-spec =
+pub name_spec : {M : Type 1} → statement M
+name_spec =
     tie.close
     (tie.spec
     invariant-loop

@@ -15,5 +15,5 @@ returns c =
     c.before.before.before.is-named.ensures in
     λ j. record { named = named j; free = c.passed2.ensures j }
 
-pub with-spec : {M : Type 1} → statement M
-with-spec = tie.close (tie.spec (λ c κs. search rules) (λ c. search rules) (λ c κs. search rules) (λ c κs. search rules) returns)
+pub with_spec : {M : Type 1} → statement M
+with_spec = tie.close (tie.spec (λ c κs. search rules) (λ c. search rules) (λ c κs. search rules) (λ c κs. search rules) returns)

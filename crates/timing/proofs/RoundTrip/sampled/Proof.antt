@@ -9,5 +9,5 @@ returns : tie.Need-returns
 unfolding sampled
 returns c = rw (c.timeout.ensures, c.before.next-variation.ensures, c.before.before.next-smoothed.ensures)
 
-pub sampled-spec : {M : Type 1} → statement M
-sampled-spec = tie.close (tie.spec (search rules) (search rules) (search rules) returns)
+pub sampled_spec : {M : Type 1} → statement M
+sampled_spec = tie.close (tie.spec (search rules) (search rules) (search rules) returns)

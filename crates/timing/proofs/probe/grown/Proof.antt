@@ -7,5 +7,5 @@ use Rattle.timing.proofs.probe.grown.Tie as tie
 returns : tie.Need-returns
 returns c = rw (c.sum.ensures, c.before.longer-wait.ensures)
 
-pub grown-spec : {M : Type 1} → statement M
-grown-spec = tie.close (tie.spec (search rules) (search rules) returns)
+pub grown_spec : {M : Type 1} → statement M
+grown_spec = tie.close (tie.spec (search rules) (search rules) returns)

@@ -2,13 +2,13 @@
 -- Assumes nothing.
 use borrow.Author.Rules.{rules}
 use native.Mathlib.Omega.{arith}
-use Rattle.timing.specs.Probes.{longerWait}
+use Rattle.timing.specs.Probes.{longer_wait}
 use Rattle.timing.proofs.probe.longer_wait.Statement.{statement}
 use Rattle.timing.proofs.probe.longer_wait.Tie as tie
 
 returns : tie.Need-returns
-unfolding longerWait
+unfolding longer_wait
 returns c = omega arith
 
-pub longer-wait-spec : {M : Type 1} → statement M
-longer-wait-spec = tie.close (tie.spec (search rules) (search rules) (search rules) (search rules) returns)
+pub longer_wait_spec : {M : Type 1} → statement M
+longer_wait_spec = tie.close (tie.spec (search rules) (search rules) (search rules) (search rules) returns)

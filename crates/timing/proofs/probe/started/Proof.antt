@@ -7,5 +7,5 @@ use Rattle.timing.proofs.probe.started.Tie as tie
 returns : tie.Need-returns
 returns c = rw c.sum.ensures
 
-pub started-spec : {M : Type 1} → statement M
-started-spec = tie.close (tie.spec (search rules) returns)
+pub started_spec : {M : Type 1} → statement M
+started_spec = tie.close (tie.spec (search rules) returns)

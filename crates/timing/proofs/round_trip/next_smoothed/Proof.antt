@@ -3,18 +3,18 @@
 use borrow.Author.Rules.{rules}
 use borrow.Author.Tests.{eq-eqb, ne_eqb}
 use native.Mathlib.Omega.{arith}
-use Rattle.timing.specs.RoundTrips.{nextSmoothed}
+use Rattle.timing.specs.RoundTrips.{next_smoothed}
 use Rattle.timing.proofs.round_trip.next_smoothed.Statement.{statement}
 use Rattle.timing.proofs.round_trip.next_smoothed.Tie as tie
 
 returns : tie.Need-returns
-unfolding nextSmoothed
+unfolding next_smoothed
 returns c = rw (eq-eqb _ _ c.if1.true)
 
 returns-2 : tie.Need-returns-2
-unfolding nextSmoothed
+unfolding next_smoothed
 returns-2 c = rw (ne_eqb _ _ c.before.before.before.before.if1.false) (omega arith)
 
-pub next-smoothed-spec : {M : Type 1} → statement M
-next-smoothed-spec = tie.close (tie.spec returns (search rules) (search rules) (search rules) (search rules) (search rules) (search rules)
+pub next_smoothed_spec : {M : Type 1} → statement M
+next_smoothed_spec = tie.close (tie.spec returns (search rules) (search rules) (search rules) (search rules) (search rules) (search rules)
     returns-2)

@@ -2,7 +2,7 @@
 -- Assumes nothing.
 use borrow.Author.Rules.{rules}
 use Rattle.notation.specs.Ascii.{ascii}
-use Rattle.notation.specs.PutLaws.{put_then, put-length}
+use Rattle.notation.specs.PutLaws.{put_then, put_length}
 use Rattle.transcript.specs.Lines.{entry}
 use Rattle.transcript.proofs.link.entry.Statement.{statement}
 use Rattle.transcript.proofs.link.entry.Tie as tie
@@ -16,4 +16,4 @@ returns c =
 
 pub entry_spec : {M : Type 1} → statement M
 entry_spec =
-    tie.close (tie.spec (search rules) (search rules) (search rules) (λ c. put-length _ _ _ _ _ (returns c)) returns)
+    tie.close (tie.spec (search rules) (search rules) (search rules) (λ c. put_length _ _ _ _ _ (returns c)) returns)

@@ -7,8 +7,8 @@ use Rattle.transcript.proofs.link.numbers.Tie as tie
 returns : tie.Need-returns
 returns c = cc
 
-pub numbers-spec : {M : Type 1} → statement M
-numbers-spec =
+pub numbers_spec : {M : Type 1} → statement M
+numbers_spec =
     tie.close
     (tie.spec
     (search rules)

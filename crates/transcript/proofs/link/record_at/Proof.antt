@@ -9,5 +9,5 @@ use Rattle.transcript.proofs.link.record_at.Tie as tie
 returns-2 : tie.Need-returns-2
 returns-2 c = sym (get_or-eq_default c.before.args.t1 _ (search rules))
 
-pub record-at-spec : {M : Type 1} → statement M
-record-at-spec = tie.close (tie.spec (search rules) (search rules) (search rules) returns-2)
+pub record_at_spec : {M : Type 1} → statement M
+record_at_spec = tie.close (tie.spec (search rules) (search rules) (search rules) returns-2)

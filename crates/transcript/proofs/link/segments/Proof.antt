@@ -2,13 +2,13 @@
 -- Assumes nothing.
 use borrow.Author.Rules.{rules}
 use Rattle.notation.specs.Ascii.{ascii}
-use Rattle.notation.specs.PutLaws.{put_then, put-length}
-use Rattle.transcript.specs.Lines.{heldLine}
+use Rattle.notation.specs.PutLaws.{put_then, put_length}
+use Rattle.transcript.specs.Lines.{held_line}
 use Rattle.transcript.proofs.link.segments.Statement.{statement}
 use Rattle.transcript.proofs.link.segments.Tie as tie
 
 returns : tie.Need-returns
-unfolding heldLine ascii
+unfolding held_line ascii
 returns c =
     let queued = put_then _ _ _ _ _ _ _ _ c.before.before.before.before.before.before.before.before.before.before.before.before.before.before.before.before.before.before.before.before.before.before.bytes.ensures
     c.before.before.before.before.before.before.before.before.before.before.before.before.before.before.before.before.before.before.held.ensures in
@@ -19,7 +19,7 @@ returns c =
     put_then _ _ _ _ _ _ _ _ (put_then _ _ _ _ _ _ _ _ ready c.before.before.before.before.before.before.waiting.ensures)
     c.before.before.byte.ensures
 
-pub segments-spec : {M : Type 1} → statement M
-segments-spec =
+pub segments_spec : {M : Type 1} → statement M
+segments_spec =
     tie.close (tie.spec (search rules) (search rules) (search rules) (search rules) (search rules) (search rules) (search rules)
-    (λ c. put-length _ _ _ _ _ (returns c)) returns)
+    (λ c. put_length _ _ _ _ _ (returns c)) returns)

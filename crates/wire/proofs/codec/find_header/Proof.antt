@@ -21,8 +21,8 @@ whole : (s : List ℕ) (i : ℕ) (h : Header) → h ≡ decode s i → i + 24 �
 unfolding header_at
 whole s i h e enough = rw (le-leb _ _ enough, e)
 
-pub find-header-spec : {M : Type 1} → statement M
-find-header-spec =
+pub find_header_spec : {M : Type 1} → statement M
+find_header_spec =
     tie.close
     (tie.spec
     (λ c. too_short _ _ (omega arith))

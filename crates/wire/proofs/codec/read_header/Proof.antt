@@ -18,8 +18,8 @@ returns c = λ i. record {
   len = c.read-u325.ensures i;
 }
 
-pub read-header-spec : {M : Type 1} → statement M
-read-header-spec =
+pub read_header_spec : {M : Type 1} → statement M
+read_header_spec =
     tie.close
     (tie.spec
     (search rules)

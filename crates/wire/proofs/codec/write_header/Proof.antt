@@ -20,8 +20,8 @@ no_room l i h short = record { room = sym (lt-leb _ _ short); bytes = refl }
 room : (l : List ℕ) (i : ℕ) (h : Header) (m : List ℕ) → m ≡ sets l i (encode h) → i + 24 ≤ length l → Wrote l i h true m
 room l i h m e enough = record { room = sym (le-leb _ _ enough); bytes = e }
 
-pub write-header-spec : {M : Type 1} → statement M
-write-header-spec =
+pub write_header_spec : {M : Type 1} → statement M
+write_header_spec =
     tie.close
     (tie.spec
     (λ c. no_room _ _ _ (omega arith))

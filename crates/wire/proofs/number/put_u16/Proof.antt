@@ -15,7 +15,7 @@ returns : tie.Need-returns
 unfolding bytes_of
 returns c = simp towards_suc
 
-pub put-u16-spec : {M : Type 1} → statement M
-put-u16-spec =
+pub put_u16_spec : {M : Type 1} → statement M
+put_u16_spec =
     tie.close
     (tie.spec (search rules) (search rules) (search rules) (search rules) slice-write-out-2 (search rules) returns)

@@ -21,8 +21,8 @@ returns : tie.Need-returns
 unfolding bytes_of
 returns c = simp towards_suc
 
-pub put-u32-spec : {M : Type 1} → statement M
-put-u32-spec =
+pub put_u32_spec : {M : Type 1} → statement M
+put_u32_spec =
     tie.close
     (tie.spec
     (search rules)

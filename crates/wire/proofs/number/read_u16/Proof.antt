@@ -1,16 +1,16 @@
--- `wire::number::read_u16` meets its contract: two bytes, by `numberAt-add`.
+-- `wire::number::read_u16` meets its contract: two bytes, by `number_at_add`.
 -- Assumes nothing.
 use borrow.Author.Rules.{rules}
-use Rattle.wire.specs.LittleEndianLaws.{numberAt-add}
+use Rattle.wire.specs.LittleEndianLaws.{number_at_add}
 use native.Mathlib.Omega.{arith}
 use Rattle.wire.proofs.number.read_u16.Statement.{statement}
 use Rattle.wire.proofs.number.read_u16.Tie as tie
 
 returns : tie.Need-returns
-returns c = rw (numberAt-add 1 1) (omega arith)
+returns c = rw (number_at_add 1 1) (omega arith)
 
-pub read-u16-spec : {M : Type 1} → statement M
-read-u16-spec =
+pub read_u16_spec : {M : Type 1} → statement M
+read_u16_spec =
     tie.close
     (tie.spec
     (search rules)

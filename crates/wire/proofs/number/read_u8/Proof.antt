@@ -10,5 +10,5 @@ returns : tie.Need-returns
 unfolding number_at
 returns c = omega arith
 
-pub read-u8-spec : {M : Type 1} → statement M
-read-u8-spec = tie.close (tie.spec (search rules) returns)
+pub read_u8_spec : {M : Type 1} → statement M
+read_u8_spec = tie.close (tie.spec (search rules) returns)
