@@ -1,4 +1,5 @@
 // The sending half hears a datagram in place: windows and round trips, what is acknowledged, and skips.
+#![tactic(auto)]
 ghost use Rattle.std.specs.Prelude.{◌≡◌, cond, not, ◌&&◌, map, ℕ, ◌^◌, ◌≤◌, ◌<◌, ltb, take, length};
 ghost use Rattle.protocol.specs.Ranges.{mss};
 ghost use Rattle.protocol.specs.Serial.{is_before};
@@ -20,14 +21,14 @@ use timing::{Record, RoundTrip};
 use wire::Header;
 
 // The segments that stay outstanding: how many, and the first one's number (with none, snd_nxt).
-#[derive(Drop)]
+#[derive(Clone, Copy)]
 struct Left {
     count: usize,
     first: u32,
 }
 
 // The furthest number that the acks of a datagram have named so far, if any came.
-#[derive(Drop)]
+#[derive(Clone, Copy)]
 struct Furthest {
     any: bool,
     number: u32,

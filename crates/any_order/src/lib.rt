@@ -1,1 +1,2 @@
 // Una and ack numbers in whatever order: definitions and proofs, in specs/.
+#![tactic(auto)]

@@ -1,4 +1,5 @@
 // The state of the bench: a link, its table of records, and how much of each part it is lent.
+#![tactic(auto)]
 pub mod poke;
 
 ghost use Rattle.std.specs.Prelude.{◌≡◌, true, false, ◌≤◌, set};
@@ -10,7 +11,7 @@ use protocol::Settings;
 use timing::{ProbeClock, Record, RoundTrip};
 
 // How many elements of each part are lent. More than a part has lends all of it.
-#[derive(Drop)]
+#[derive(Clone, Copy)]
 pub struct Lent {
     pub send: usize,
     pub receive: usize,
@@ -20,7 +21,7 @@ pub struct Lent {
     pub lengths: usize,
 }
 
-#[derive(Drop)]
+#[derive(Clone, Copy)]
 pub struct Bench {
     pub link: Link,
     pub table: [Record; 128],

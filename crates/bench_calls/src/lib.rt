@@ -1,4 +1,5 @@
 // The link's calls over the state of the bench: each is lent as much of every part as the bench says.
+#![tactic(auto)]
 ghost use Rattle.std.specs.Prelude.{◌≡◌};
 ghost use Rattle.bench_calls.specs.Fronts.{Front};
 ghost use Rattle.bench_calls.specs.BenchPromises.{after, after_open, BenchOpens, BenchSends, BenchTakesIn};
@@ -11,21 +12,21 @@ use protocol::Settings;
 use value_calls::{FlushedOut, TakenIn, UpdatedOut};
 
 // The answer of opening, sending or taking in, and the bench after it.
-#[derive(Drop)]
+#[derive(Clone, Copy)]
 pub struct Answered {
     pub answer: Answer,
     pub bench: Bench,
 }
 
 // The answer of a flush or a read, and the bench after it.
-#[derive(Drop)]
+#[derive(Clone, Copy)]
 pub struct Counted {
     pub answer: Count,
     pub bench: Bench,
 }
 
 // The answer of an update, and the bench after it.
-#[derive(Drop)]
+#[derive(Clone, Copy)]
 pub struct Updated {
     pub answer: Update,
     pub bench: Bench,

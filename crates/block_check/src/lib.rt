@@ -1,4 +1,5 @@
 // The check of a block behind a pointer: refusal 13. One function for all calls, which reads the block where it stands. Proved by a walk.
+#![tactic(auto)]
 ghost use Rattle.std.specs.Prelude.{◌≡◌};
 ghost use Rattle.marks.specs.Marks.{none, none_to_send};
 ghost use Rattle.checking.specs.Verdicts.{Sound};

@@ -1,5 +1,6 @@
 // The check of a control block in place: refusal 13, after the lent sizes, refusal 7. Numbers by value, lists lent; the slots of each half
 // are marked on the way. The passes over a list have no early exit.
+#![tactic(auto)]
 pub mod ahead;
 pub mod flights;
 pub mod full;
@@ -16,7 +17,7 @@ use control::{Arrival, Clock, Flight};
 use protocol::{Refusal, Settings};
 
 // What the checks of 7 and 13 say.
-#[derive(Drop)]
+#[derive(Clone, Copy)]
 pub enum Verdict {
     Passed,
     Refused(Refusal),

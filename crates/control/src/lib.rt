@@ -2,6 +2,7 @@
 //
 // A held segment is one word (`words`); the numbers of waiting segments and the transmissions of outstanding ones stand in
 // arrays beside their words. The number, due time, timeout and skips of an outstanding segment are its record in the lent table.
+#![tactic(auto)]
 use congestion::Congestion;
 use protocol::Settings;
 use timing::{ProbeClock, RoundTrip};
@@ -9,7 +10,7 @@ use timing::{ProbeClock, RoundTrip};
 // The sending half's numbers: snd_una, snd_nxt, the round trip, the peer's last window, the congestion window, and how many are queued and
 // outstanding.
 #[repr(C)]
-#[derive(Drop)]
+#[derive(Clone, Copy)]
 pub struct Flight {
     pub una: u32,
     pub next: u32,
@@ -22,7 +23,7 @@ pub struct Flight {
 
 // The receiving half's numbers: rcv_nxt, whether a tell is wanted, and how many are ready, waiting and noted as acks.
 #[repr(C)]
-#[derive(Drop)]
+#[derive(Clone, Copy)]
 pub struct Arrival {
     pub expected: u32,
     pub tell: u8,
@@ -34,7 +35,7 @@ pub struct Arrival {
 // What flushes and updates move on: the probe clock, the time of the last of them, the next flush time, whether an ask is wanted,
 // whether the link is dead, and whether an update has been made.
 #[repr(C)]
-#[derive(Drop)]
+#[derive(Clone, Copy)]
 pub struct Clock {
     pub probe: ProbeClock,
     pub current: u32,
@@ -47,7 +48,7 @@ pub struct Clock {
 // The control block. Flags are 0 or, set, anything else, so every byte pattern is a block. What stands in a list past its
 // count is not state.
 #[repr(C)]
-#[derive(Drop)]
+#[derive(Clone, Copy)]
 pub struct Link {
     pub settings: Settings,
     pub flight: Flight,

@@ -1,4 +1,5 @@
 // The walk over a datagram: its check, and its segments one by one.
+#![tactic(auto)]
 ghost use Rattle.std.specs.Prelude.{◌≡◌};
 ghost use Rattle.datagram.specs.Datagrams.{verdict, parse, counted, step_at};
 
@@ -6,21 +7,21 @@ use protocol::{Protocol, Refusal};
 use wire::{Found, Header};
 
 // Whether a segment passes the tests, or the refusal of the first that fails.
-#[derive(Drop)]
+#[derive(Clone, Copy)]
 pub enum Verdict {
     Passes,
     Fails(Refusal),
 }
 
 // Whether a datagram is accepted, with the count of its segments, or why it is refused.
-#[derive(Drop)]
+#[derive(Clone, Copy)]
 pub enum Checked {
     Accepted(usize),
     Refused(Refusal),
 }
 
 // What stands at a position of a datagram: a whole segment, its payload from `start` up to `next`, or none.
-#[derive(Drop)]
+#[derive(Clone, Copy)]
 pub enum Step {
     Segment {
         header: Header,

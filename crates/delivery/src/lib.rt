@@ -1,1 +1,2 @@
 // Theorems about whole lists of calls: definitions and proofs, in specs/.
+#![tactic(auto)]

@@ -1,5 +1,6 @@
 // Sending a message: its fragments take the lowest free slots of the send pool and are queued, in place. In stream mode the last queued
 // segment is filled first.
+#![tactic(auto)]
 ghost use Rattle.std.specs.Prelude.{◌≡◌, Bool, cond, ◌-◌, ◌*◌, ◌<◌, ◌≤◌, min, length, drop};
 ghost use Rattle.protocol.specs.Protocol.{send_slots};
 ghost use Rattle.session.specs.State.{State};
@@ -14,7 +15,7 @@ use lists::Held;
 use protocol::{Protocol, Refusal};
 
 // The answer, and how many are queued after it.
-#[derive(Drop)]
+#[derive(Clone, Copy)]
 pub struct Enqueued {
     pub answer: Answer,
     pub queued: usize,

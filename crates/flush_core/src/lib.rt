@@ -1,4 +1,5 @@
 // The core of a flush and of an update: the numbers of a block by value, its arrays and the records of its outstanding segments lent.
+#![tactic(auto)]
 pub mod parts;
 
 ghost use Rattle.std.specs.Prelude.{◌≡◌, ℕ, List, length};
@@ -15,7 +16,7 @@ use sizes::Lengths;
 
 // The answer of an update, which a flush has too, the block's numbers after it, and the number of outstanding segments whose records
 // are to be put back into the table: all of them, or none where none was sent.
-#[derive(Drop)]
+#[derive(Clone, Copy)]
 pub struct Flushed {
     pub answer: Update,
     pub flight: Flight,

@@ -14,7 +14,7 @@ use timing::ProbeClock;
 use transmit::Flush;
 
 // What a flush goes by, whether it asks and tells, and the probe clock after it.
-#[derive(Drop)]
+#[derive(Clone, Copy)]
 pub(crate) struct Plan {
     pub(crate) flush: Flush,
     pub(crate) ask: bool,
@@ -137,7 +137,7 @@ pub(crate) fn cleared(arrival: Arrival) -> Arrival
 }
 
 // The clock with the next schedule, and whether the flush runs.
-#[derive(Drop)]
+#[derive(Clone, Copy)]
 pub(crate) struct Step {
     pub(crate) clock: Clock,
     pub(crate) flushes: bool,

@@ -1,11 +1,12 @@
 // Groups of frames: k data frames, each a datagram behind a header of 8 bytes, and two parity frames.
+#![tactic(auto)]
 ghost use Rattle.std.specs.Prelude.{◌≡◌};
 ghost use Rattle.frames.specs.Outcomes.{number_of};
 
 pub mod lent;
 
 // The numbers of the frames.
-#[derive(Drop)]
+#[derive(Clone, Copy)]
 pub struct Frames {}
 
 impl Frames {
@@ -28,7 +29,7 @@ impl Frames {
 }
 
 // Why a call is refused.
-#[derive(Drop)]
+#[derive(Clone, Copy)]
 pub enum Refusal {
     ShortPart,
     SettingOutOfRange,
@@ -38,7 +39,7 @@ pub enum Refusal {
 }
 
 // How many frames or datagrams were written, or why none.
-#[derive(Drop)]
+#[derive(Clone, Copy)]
 pub enum Answer {
     Written(usize),
     Refused(Refusal),

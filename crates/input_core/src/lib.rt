@@ -1,4 +1,5 @@
 // Taking in a datagram over the block in place: its small structs by value, its lists and the records of the outstanding segments lent.
+#![tactic(auto)]
 ghost use Rattle.std.specs.Prelude.{◌≡◌, ℕ, length};
 ghost use Rattle.record_words.specs.RecordWords.{records_in};
 ghost use Rattle.session.specs.Input.{input};
@@ -20,7 +21,7 @@ use protocol::Settings;
 use sizes::Lengths;
 
 // The answer, the numbers of both halves, and how many records go back into the table: the first ones, by their words.
-#[derive(Drop)]
+#[derive(Clone, Copy)]
 pub struct Taken {
     pub answer: Answer,
     pub flight: Flight,

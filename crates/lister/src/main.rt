@@ -1,4 +1,5 @@
 // Lists the segments of the datagram on standard input.
+#![tactic(auto)]
 use libc::{STDIN_FILENO, STDOUT_FILENO};
 
 fn main() {

@@ -1,4 +1,5 @@
 // The lister's lines, and the whole listing of a datagram.
+#![tactic(auto)]
 mod out;
 mod text;
 
@@ -11,7 +12,7 @@ use protocol::Refusal;
 use wire::{Found, Header};
 
 // A line of text: the first `len` bytes.
-#[derive(Drop)]
+#[derive(Clone, Copy)]
 pub struct Line {
     pub bytes: [u8; 80],
     pub len: usize,

@@ -1,10 +1,11 @@
 // Segments queued, outstanding, ready and waiting: their types, and in specs/ the lists of them. A list is the front of an array,
 // in list order, up to its count; what stands past the count is not state.
+#![tactic(auto)]
 use timing::Record;
 
 // A segment held in a slot of a pool: its slot, its length in bytes and its fragment number.
 #[repr(C)]
-#[derive(Drop)]
+#[derive(Clone, Copy)]
 pub struct Held {
     pub slot: u16,
     pub len: u16,
@@ -13,7 +14,7 @@ pub struct Held {
 
 // A segment received and not yet in order.
 #[repr(C)]
-#[derive(Drop)]
+#[derive(Clone, Copy)]
 pub struct Waiting {
     pub number: u32,
     pub held: Held,
@@ -21,7 +22,7 @@ pub struct Waiting {
 
 // A segment sent and not acknowledged, as the control block keeps it: its number is in its record.
 #[repr(C)]
-#[derive(Drop)]
+#[derive(Clone, Copy)]
 pub struct Outstanding {
     pub held: Held,
     pub transmissions: u8,
@@ -29,7 +30,7 @@ pub struct Outstanding {
 
 // The same with its record of the lent table.
 #[repr(C)]
-#[derive(Drop)]
+#[derive(Clone, Copy)]
 pub struct Sent {
     pub held: Held,
     pub transmissions: u8,
@@ -37,21 +38,21 @@ pub struct Sent {
 }
 
 #[repr(C)]
-#[derive(Drop)]
+#[derive(Clone, Copy)]
 pub struct HeldList {
     pub at: [Held; 128],
     pub count: usize,
 }
 
 #[repr(C)]
-#[derive(Drop)]
+#[derive(Clone, Copy)]
 pub struct WaitingList {
     pub at: [Waiting; 128],
     pub count: usize,
 }
 
 #[repr(C)]
-#[derive(Drop)]
+#[derive(Clone, Copy)]
 pub struct OutstandingList {
     pub at: [Outstanding; 32],
     pub count: usize,
@@ -59,7 +60,7 @@ pub struct OutstandingList {
 
 // The receiving half's lists with the number expected next: segments ready to be read, and segments that wait.
 #[repr(C)]
-#[derive(Drop)]
+#[derive(Clone, Copy)]
 pub struct Receiving {
     pub next: u32,
     pub ready: HeldList,
@@ -67,7 +68,7 @@ pub struct Receiving {
 }
 
 // What acknowledges an outstanding segment: an arriving una, or an arriving ack's number.
-#[derive(Drop)]
+#[derive(Clone, Copy)]
 pub enum Acknowledges {
     Una(u32),
     Ack(u32),

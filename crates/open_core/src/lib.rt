@@ -1,4 +1,5 @@
 // Opening a link over the block in place: its numbers alone, since what stands in an array past its count is not state.
+#![tactic(auto)]
 ghost use Rattle.control.specs.Views.{Arrays, link_of};
 ghost use Rattle.promises.specs.Parts.{lent_lengths};
 ghost use Rattle.promises.specs.Outcomes.{opens_with};
@@ -13,7 +14,7 @@ use sizes::Lengths;
 use timing::{ProbeClock, RoundTrip};
 
 // The answer, and the block's numbers after it.
-#[derive(Drop)]
+#[derive(Clone, Copy)]
 pub struct Opened {
     pub answer: Answer,
     pub settings: Settings,

@@ -1,4 +1,5 @@
 // Segments packed into datagrams, straight into lent output.
+#![tactic(auto)]
 ghost use Rattle.std.specs.Prelude.{◌≡◌, ◌+◌, ◌-◌, ◌*◌, ◌≤◌, ◌<◌, length};
 ghost use Rattle.wire.specs.Headers.{encode};
 ghost use Rattle.session.specs.Flushing.{bytes_of_segment, control, data_segment};
@@ -9,7 +10,7 @@ use protocol::Protocol;
 use wire::Header;
 
 // Where the next byte goes, where the datagram that is being filled starts, and how many datagrams are closed.
-#[derive(Drop)]
+#[derive(Clone, Copy)]
 pub struct Packer {
     pub at: usize,
     pub start: usize,
@@ -17,7 +18,7 @@ pub struct Packer {
 }
 
 // What all segments of a flush carry: conversation, window and una.
-#[derive(Drop)]
+#[derive(Clone, Copy)]
 pub struct Carried {
     pub conv: u32,
     pub wnd: u16,

@@ -1,4 +1,5 @@
 // The data shards of a group, held or restored.
+#![tactic(auto)]
 ghost use Rattle.std.specs.Prelude.{◌≡◌, true, ◌<◌, length};
 ghost use Rattle.frames.specs.Lists.{lengths_of, largest};
 ghost use Rattle.frames.specs.Frames.{shard};
@@ -10,7 +11,7 @@ use parity_scan::Held;
 use wire::number;
 
 // A group: its settings, the places lost, 12 for none, and where the shards of the others are held.
-#[derive(Drop)]
+#[derive(Clone, Copy)]
 pub struct Group {
     pub k: usize,
     pub mtu: usize,

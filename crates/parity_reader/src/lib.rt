@@ -1,4 +1,5 @@
 // The reader of a group: from frames in any order, the k datagrams by place.
+#![tactic(auto)]
 mod output;
 mod verify;
 

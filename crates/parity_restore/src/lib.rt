@@ -1,4 +1,5 @@
 // The data shards that are lost, at most two, from those that are held.
+#![tactic(auto)]
 ghost use Rattle.std.specs.Prelude.{◌≡◌, ◌+◌, ◌≤◌, ◌<◌, length, get_or};
 ghost use Rattle.galois.specs.Field.{plus};
 ghost use Rattle.rows.specs.Rows.{Row};

@@ -1,4 +1,5 @@
 // The frames given to the reader: each checked by itself, and where the shard of each place is held.
+#![tactic(auto)]
 ghost use Rattle.std.specs.Prelude.{◌≡◌, ◌+◌, ◌≤◌, ◌<◌, length, take, drop};
 ghost use Rattle.wire.specs.LittleEndian.{number_at};
 ghost use Rattle.frames.specs.Lists.{add_up, parts, count};
@@ -10,14 +11,14 @@ use frames::{Frames, lent};
 use wire::number;
 
 // Where the shard of each place lies among the packed frames, and its size; size 0 where none is held.
-#[derive(Drop)]
+#[derive(Clone, Copy)]
 pub struct Held {
     pub at: [usize; 12],
     pub size: [usize; 12],
 }
 
 // What a scan of the frames finds: whether each passes, their group, and what is held.
-#[derive(Drop)]
+#[derive(Clone, Copy)]
 pub struct Scanned {
     pub ok: bool,
     pub group: usize,

@@ -1,4 +1,5 @@
 // The writer of a group: k data frames and two parity frames.
+#![tactic(auto)]
 mod data;
 mod shards;
 

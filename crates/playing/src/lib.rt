@@ -1,4 +1,5 @@
 // What each command of a script does, and its answer as text.
+#![tactic(auto)]
 ghost use Rattle.std.specs.Prelude.{◌≡◌, min, take, set, ◌++◌};
 ghost use Rattle.notation.specs.Ascii.{ascii};
 ghost use Rattle.transcript.specs.Lines.{bytes_line, refusal_line, answer_line, count_line, datagram_lines, state_line, held_line};
@@ -18,7 +19,7 @@ use timing::Record;
 use transcript::link;
 
 // The bench after a command, and the length of its answer.
-#[derive(Drop)]
+#[derive(Clone, Copy)]
 pub struct Played {
     pub bench: Bench,
     pub len: usize,

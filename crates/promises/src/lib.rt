@@ -1,1 +1,2 @@
 // What the public calls promise. Definitions only.
+#![tactic(auto)]

@@ -1,4 +1,6 @@
 // The protocol's numbers, the settings of a link, the refusals, and 32-bit numbers that wrap.
+#![tactic(auto)]
+
 pub mod serial;
 
 ghost use Rattle.std.specs.Prelude.{◌≡◌, ◌-◌};
@@ -7,7 +9,7 @@ ghost use Rattle.protocol.specs.Ranges.{in_range};
 ghost use Rattle.protocol.specs.Refusals.{number_of};
 
 // The numbers of the protocol, all of them here.
-#[derive(Drop)]
+#[derive(Clone, Copy)]
 pub struct Protocol {}
 
 impl Protocol {
@@ -128,7 +130,7 @@ impl Protocol {
 // The settings of a link: conversation, largest datagram, interval, mode, threshold of a fast retransmission, stream mode (1, else 0), and
 // whether flushes go by the congestion window (1, else 0).
 #[repr(C)]
-#[derive(Drop)]
+#[derive(Clone, Copy)]
 pub struct Settings {
     pub conv: u32,
     pub mtu: u16,
@@ -167,7 +169,7 @@ impl Settings {
 }
 
 // Why a call is refused.
-#[derive(Drop)]
+#[derive(Clone, Copy)]
 pub enum Refusal {
     ShortDatagram,
     OtherConversation,

@@ -1,5 +1,6 @@
 // Reading a message, telling its size, and showing its first segment: the block's numbers by value, its lists and the other parts lent.
 // Each is given whether the block is sound and whether the records of its outstanding segments fit, and checks 7, then 13, then its own.
+#![tactic(auto)]
 ghost use Rattle.std.specs.Prelude.{◌≡◌, ◌+◌, ◌*◌, ◌≤◌, ◌<◌, ◌^◌, length, take, drop};
 ghost use Rattle.protocol.specs.Protocol.{receive_slots};
 ghost use Rattle.words.specs.Words.{held_in};
@@ -21,14 +22,14 @@ use protocol::Settings;
 use sizes::Lengths;
 
 // The answer of reading, and the receiving half's numbers after it.
-#[derive(Drop)]
+#[derive(Clone, Copy)]
 pub struct Delivered {
     pub answer: Count,
     pub arrival: Arrival,
 }
 
 // A part of the receive pool, by numbers.
-#[derive(Drop)]
+#[derive(Clone, Copy)]
 pub struct Place {
     pub start: usize,
     pub count: usize,

@@ -1,4 +1,5 @@
 // Plays a script of link calls on standard input, and writes the answers.
+#![tactic(auto)]
 ghost use Rattle.std.specs.Prelude.{◌≡◌, ◌+◌, ◌≤◌, length, drop};
 ghost use Rattle.script.specs.Commands.{first_line};
 

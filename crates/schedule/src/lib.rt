@@ -1,15 +1,16 @@
 // When a link is to be called: the schedule that updates keep, and the time that a check names.
+#![tactic(auto)]
 pub mod times;
 
 // The schedule: the next flush time, and whether an update has been made.
-#[derive(Drop)]
+#[derive(Clone, Copy)]
 pub struct Schedule {
     pub next: u32,
     pub made: bool,
 }
 
 // What an update does to the schedule: the next schedule, and whether the flush runs.
-#[derive(Drop)]
+#[derive(Clone, Copy)]
 pub struct Updated {
     pub schedule: Schedule,
     pub flushes: bool,

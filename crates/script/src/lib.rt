@@ -1,4 +1,5 @@
 // A line of a replay script read as a command. Words are parted by one space; numbers are decimal, bytes are hex.
+#![tactic(auto)]
 mod numbers;
 mod words;
 
@@ -19,7 +20,7 @@ pub const SCRIPT_MOST: usize = 1048576;
 pub const ROOM_MOST: usize = 60000;
 
 // A command. The bytes of `send` and `input` stand at the start of a lent buffer, and their count is here.
-#[derive(Drop)]
+#[derive(Clone, Copy)]
 pub enum Command {
     Open {
         conv: u32,

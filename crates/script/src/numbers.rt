@@ -7,7 +7,7 @@ use crate::words;
 use notation::Number;
 
 // The numbers of a line, in its order, and how many there are; more than 8 where the line is malformed.
-#[derive(Drop)]
+#[derive(Clone, Copy)]
 pub(crate) struct Numbers {
     pub(crate) at: [u32; 8],
     pub(crate) count: usize,

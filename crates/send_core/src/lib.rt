@@ -1,4 +1,5 @@
 // Sending a message over the block in place. Of the records of the outstanding segments it is given whether they fit.
+#![tactic(auto)]
 ghost use Rattle.control.specs.Views.{arrays, link_of, Whole};
 ghost use Rattle.checking.specs.Verdicts.{Flies, ByFlown, SendMarked};
 ghost use Rattle.enqueue.specs.Enqueueing.{Enqueueable};
@@ -11,7 +12,7 @@ use protocol::Settings;
 use sizes::Lengths;
 
 // The answer, and the sending half's numbers after it.
-#[derive(Drop)]
+#[derive(Clone, Copy)]
 pub struct Submitted {
     pub answer: Answer,
     pub flight: Flight,

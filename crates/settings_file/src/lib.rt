@@ -1,6 +1,7 @@
 // The settings of a link in a file: the letters KLS, the version in 2 bytes, then conversation 4 bytes, mtu 2, mode 1, interval 2 and
 // threshold 1. That is version 1, of 15 bytes, for an mtu up to 512 with stream and congestion off. Version 2, of 17 bytes, is for all
 // other settings and adds one byte each for stream and congestion. Numbers are little-endian.
+#![tactic(auto)]
 ghost use Rattle.std.specs.Prelude.{◌≡◌, ◌≤◌, length};
 ghost use Rattle.std.proofs.lemmas.List.Edits.{sets};
 ghost use Rattle.settings_file.specs.Files.{
@@ -44,7 +45,7 @@ const SECOND_SIZE: usize = 17;
 const FIRST_MTU_MOST: u16 = 512;
 
 // Why a file is not read, or not written.
-#[derive(Drop)]
+#[derive(Clone, Copy)]
 pub enum FileRefusal {
     ShortPart,
     SettingOutOfRange,
@@ -54,14 +55,14 @@ pub enum FileRefusal {
 }
 
 // What a file is read as.
-#[derive(Drop)]
+#[derive(Clone, Copy)]
 pub enum Reading {
     Settings(Settings),
     Refused(FileRefusal),
 }
 
 // How many bytes of a file were written.
-#[derive(Drop)]
+#[derive(Clone, Copy)]
 pub enum Writing {
     Wrote(usize),
     Refused(FileRefusal),

@@ -1,4 +1,5 @@
 // How long the lent parts must be: refusal 7.
+#![tactic(auto)]
 ghost use Rattle.std.specs.Prelude.{◌≡◌};
 ghost use Rattle.protocol.specs.Ranges.{mss};
 ghost use Rattle.sizes.specs.Sizes.{enough, enough_to_flush};
@@ -6,7 +7,7 @@ ghost use Rattle.sizes.specs.Sizes.{enough, enough_to_flush};
 use protocol::{Protocol, Settings};
 
 // The lengths of the parts lent to every call: bytes of the two pools, records, and entries of the ack list.
-#[derive(Drop)]
+#[derive(Clone, Copy)]
 pub struct Lengths {
     pub send: usize,
     pub receive: usize,

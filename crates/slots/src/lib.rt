@@ -1,1 +1,2 @@
 // Slots of a pool, as the list of those used: definitions and laws, in specs/.
+#![tactic(auto)]

@@ -1,5 +1,6 @@
 // A name is looked for in two tables of tags, the station's own and the line's defaults: find, ask and found. Refusals in the order
 // 7, 24, 17; asking shows an empty part where it is refused.
+#![tactic(auto)]
 ghost use Rattle.std.specs.Prelude.{◌≡◌, ◌<◌, length};
 ghost use Rattle.tag_survey.specs.Tables.{table_size, entries_in};
 ghost use Rattle.tag_find.specs.Findings.{value_at, first_of, find_in, found_by, Shows, ShowsOwn, ShowsDefaults};
@@ -9,14 +10,14 @@ use tag_message::{TagRefusal, is_name};
 use tag_survey::{ENTRIES, SIZE, Surveyed, survey};
 
 // A part of a table, by numbers.
-#[derive(Drop)]
+#[derive(Clone, Copy)]
 pub struct Part {
     pub start: usize,
     pub len: usize,
 }
 
 // Where the value of a name is: in the station's own table, in the line's defaults, or in neither.
-#[derive(Drop)]
+#[derive(Clone, Copy)]
 pub enum Finding {
     Own(Part),
     Defaults(Part),
@@ -25,7 +26,7 @@ pub enum Finding {
 }
 
 // Whether a name was found.
-#[derive(Drop)]
+#[derive(Clone, Copy)]
 pub enum Presence {
     Found,
     Missing,

@@ -1,4 +1,5 @@
 // A tag message: a name length 1 to 32, the name in bytes 33 to 126, a value length 0 to 64, the value, and then the end.
+#![tactic(auto)]
 ghost use Rattle.std.specs.Prelude.{◌≡◌, ◌+◌, ◌≤◌, length};
 ghost use Rattle.std.proofs.lemmas.List.Edits.{sets};
 ghost use Rattle.tag_message.specs.Tags.{number_of, every, is_printable, is_name, is_tag};
@@ -13,7 +14,7 @@ pub const VALUE_MOST: usize = 64;
 const ROOM: usize = 98;
 
 // Why a call on a tag message or on a table of tags is refused.
-#[derive(Drop)]
+#[derive(Clone, Copy)]
 pub enum TagRefusal {
     OtherSize,
     NotATag,
@@ -23,14 +24,14 @@ pub enum TagRefusal {
 }
 
 // What a message is read as: the lengths of its name and of its value.
-#[derive(Drop)]
+#[derive(Clone, Copy)]
 pub enum Reading {
     Tag { name: usize, value: usize },
     Refused(TagRefusal),
 }
 
 // Whether a message was written, and its length.
-#[derive(Drop)]
+#[derive(Clone, Copy)]
 pub enum Writing {
     Written(usize),
     Refused(TagRefusal),

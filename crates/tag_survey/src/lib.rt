@@ -1,4 +1,5 @@
 // One pass over a table of tags: whether it is in its rules, where a name is, and which entry is the lowest free one.
+#![tactic(auto)]
 ghost use Rattle.std.specs.Prelude.{◌≡◌, true, ◌+◌, ◌≤◌, ◌<◌, length, take};
 ghost use Rattle.tag_message.specs.Tags.{every};
 ghost use Rattle.tag_entry.specs.Entries.{entry_size, name_length, is_entry, is_named};
@@ -13,14 +14,14 @@ pub const ENTRIES: usize = 64;
 pub const SIZE: usize = 6272;
 
 // How many entries stand before the first with a name, and before the first free one; 64 where there is none.
-#[derive(Drop)]
+#[derive(Clone, Copy)]
 pub struct Seen {
     pub named: usize,
     pub free: usize,
 }
 
 // What a pass over a table finds.
-#[derive(Drop)]
+#[derive(Clone, Copy)]
 pub enum Surveyed {
     Of(Seen),
     Broken,

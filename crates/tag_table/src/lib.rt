@@ -1,4 +1,5 @@
 // A table of tags is changed: set, take and remove. Refusals in the order 7, 24, 17, 18 or 19; a refused call changes nothing.
+#![tactic(auto)]
 ghost use Rattle.tag_table.specs.Changes.{SetsTag, TakesTag, RemovesTag};
 
 use tag_entry::{ENTRY, put_entry, put_zeros};
@@ -6,7 +7,7 @@ use tag_message::{Reading, TagRefusal, is_name, is_tag};
 use tag_survey::{ENTRIES, SIZE, Surveyed, survey};
 
 // Whether a table was changed.
-#[derive(Drop)]
+#[derive(Clone, Copy)]
 pub enum Changing {
     Done,
     Refused(TagRefusal),

@@ -1,4 +1,5 @@
 // The answers of a replay as lines of text, put into lent output.
+#![tactic(auto)]
 pub mod link;
 
 ghost use Rattle.std.specs.Prelude.{◌≡◌, ◌<◌, min, take};

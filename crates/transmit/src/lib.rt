@@ -1,5 +1,6 @@
 // What a flush sends, in place: outstanding segments are transmitted by their rules, and all that is to be sent is packed into
 // datagrams. Transmissions and records are lent arrays, and the lent parts slices.
+#![tactic(auto)]
 mod controls;
 mod transmitting;
 
@@ -12,7 +13,7 @@ use packing::{Carried, Packer};
 use protocol::Settings;
 
 // What a flush goes by: the settings, what all its segments carry, the link's timeout, and the time.
-#[derive(Drop)]
+#[derive(Clone, Copy)]
 pub struct Flush {
     pub settings: Settings,
     pub carried: Carried,
@@ -22,7 +23,7 @@ pub struct Flush {
 
 // The packer behind the data that was put, whether one of the outstanding segments was sent, and whether one sent was transmitted
 // 20 times, was due (late), or was skipped (fast).
-#[derive(Drop)]
+#[derive(Clone, Copy)]
 struct Walked {
     packer: Packer,
     dead: bool,
@@ -33,7 +34,7 @@ struct Walked {
 
 // What a flush has written: whether one of the outstanding segments was sent, whether one sent was transmitted 20 times, was due
 // (late), or was skipped (fast), and the number of datagrams.
-#[derive(Drop)]
+#[derive(Clone, Copy)]
 pub struct Written {
     pub dead: bool,
     pub late: bool,

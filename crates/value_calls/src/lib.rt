@@ -1,5 +1,6 @@
 // The calls of a link for a program that keeps block and table by value: the block's lists are locals that are lent to the core,
 // and of the table the first `lent` records, or all where it has fewer.
+#![tactic(auto)]
 ghost use Rattle.std.specs.Prelude.{◌≡◌, length, take, drop};
 ghost use Rattle.checking.specs.Verdicts.{Sound};
 ghost use Rattle.promises.specs.Promises.{ShowsPart};
@@ -17,21 +18,21 @@ use protocol::Settings;
 use timing::Record;
 
 // The answer of opening or sending, and the block after it.
-#[derive(Drop)]
+#[derive(Clone, Copy)]
 pub struct Answered {
     pub answer: Answer,
     pub link: Link,
 }
 
 // The answer of a read, and the block after it.
-#[derive(Drop)]
+#[derive(Clone, Copy)]
 pub struct Counted {
     pub answer: Count,
     pub link: Link,
 }
 
 // The answer of taking in, and block and table after it.
-#[derive(Drop)]
+#[derive(Clone, Copy)]
 pub struct TakenIn {
     pub answer: Answer,
     pub link: Link,
@@ -39,7 +40,7 @@ pub struct TakenIn {
 }
 
 // The answer of a flush, and block and table after it.
-#[derive(Drop)]
+#[derive(Clone, Copy)]
 pub struct FlushedOut {
     pub answer: Count,
     pub link: Link,
@@ -47,7 +48,7 @@ pub struct FlushedOut {
 }
 
 // The answer of an update, and block and table after it.
-#[derive(Drop)]
+#[derive(Clone, Copy)]
 pub struct UpdatedOut {
     pub answer: Update,
     pub link: Link,
@@ -74,7 +75,7 @@ fn is_counts(list: [u8; 32]) -> bool
 }
 
 // Whether a block is one that this link makes, but for the records of its outstanding segments, and the marks of its slots.
-#[derive(Drop)]
+#[derive(Clone, Copy)]
 struct Marked {
     sound: bool,
     send: [u8; 128],

@@ -1,9 +1,10 @@
 // Segments' headers as bytes.
+#![tactic(auto)]
 pub mod codec;
 pub mod number;
 
 // A segment's header.
-#[derive(Drop)]
+#[derive(Clone, Copy)]
 pub struct Header {
     pub conv: u32,
     pub cmd: u8,
@@ -16,7 +17,7 @@ pub struct Header {
 }
 
 // What stands at a position of a slice: a whole header, or fewer bytes than one.
-#[derive(Drop)]
+#[derive(Clone, Copy)]
 pub enum Found {
     Whole(Header),
     Short,
