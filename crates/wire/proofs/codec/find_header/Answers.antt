@@ -1,7 +1,5 @@
 -- `wire::codec::find_header` meets its contract: the two tests say whether a whole header stands there.
--- Assumes nothing.
-use borrow.Author.Rules.{rules}
-use mathlib.Core.Path.{◌≡◌, refl, sym}
+use mathlib.Core.Path.{◌≡◌}
 use mathlib.Core.List.{List}
 use Prim.Native.Nat.{ℕ, ◌+◌, ◌≤◌, ◌<◌}
 use native.Mathlib.Omega.{arith}
@@ -10,8 +8,7 @@ use borrow.Author.Tests.{le-leb, lt-leb}
 use Rattle.wire.specs.Headers.{decode, header_at}
 use Rattle.wire.specs.declared.Header.{Header}
 use Rattle.wire.specs.declared.Found.TheVariants.{Whole, Short}
-use Rattle.wire.proofs.codec.find_header.Statement.{statement}
-use Rattle.wire.proofs.codec.find_header.Tie as tie
+use Rattle.wire.proofs.codec.find_header.Goals as goal
 
 too_short : (s : List ℕ) (i : ℕ) → length s < i + 24 → Short ≡ header_at s i
 unfolding header_at
@@ -21,12 +18,11 @@ whole : (s : List ℕ) (i : ℕ) (h : Header) → h ≡ decode s i → i + 24 �
 unfolding header_at
 whole s i h e enough = rw (le-leb _ _ enough, e)
 
-pub find_header_spec : {M : Type 1} → statement M
-find_header_spec =
-    tie.close
-    (tie.spec
-    (λ c. too_short _ _ (omega arith))
-    (search rules)
-    (λ c. too_short _ _ (omega arith))
-    (search rules)
-    (λ c. whole _ _ _ c.read-header.ensures (omega arith)))
+pub returns-then-s-lt-HEADER : goal.returns-then-s-lt-HEADER
+returns-then-s-lt-HEADER c = too_short _ _ (omega arith)
+
+pub returns-then-s-at : goal.returns-then-s-at
+returns-then-s-at c = too_short _ _ (omega arith)
+
+pub returns : goal.returns
+returns c = whole _ _ _ c.read_header.ensures (omega arith)
