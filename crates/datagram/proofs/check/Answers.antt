@@ -45,6 +45,12 @@ module _ (conv mss : ℕ) (s : List ℕ) (i count : ℕ) (whole : Checked) (e : 
           rest = rw (walk_at conv mss s i w.inside, ← w.header, v, counted_front) at e;
         }
 
+-- a header was found at the loop's position
+found : (c : goal.In-Whole) →
+    let loop = c in
+    (header_at loop.args.s.now loop.loop-h.at ≡ Whole c.in-Whole.h)
+found c = sym c.find_header-found.ensures ∙ c.in-Whole.is
+
 -- the segment has passed
 went_on : (c : goal.After-struct_known-1) →
     let known = c in
@@ -87,7 +93,7 @@ pub returns-then-s-lt-HEADER : goal.returns-then-s-lt-HEADER
 returns-then-s-lt-HEADER c = rw (parse_short _ _ _ c.if-s-lt-HEADER.true)
 
 pub overflow_sub-s : goal.overflow_sub-s
-overflow_sub-s c = ?
+overflow_sub-s c = omega (arith, (found_whole _ _ _ (found c)).inside)
 
 pub loop-h-smaller : goal.loop-h-smaller
-loop-h-smaller c = ?
+loop-h-smaller c = omega (arith, (went_on c).inside)
