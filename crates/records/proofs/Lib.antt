@@ -1,7 +1,0 @@
-pub mod Again
-pub mod Call
-pub mod Frame
-pub mod Rows
-pub mod Shared
-pub mod Turns
-pub mod Walk
