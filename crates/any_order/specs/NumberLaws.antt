@@ -37,6 +37,7 @@ module _ {A : Type 0} (numbers : A → List Acknowledges) where
 
   of_member : (a : Acknowledges) (x : A) (l : List A) → Memᴰ x l → Memᴰ a (numbers x) → Memᴰ a (of_all numbers l)
   unfolding of_all
+  of_member a x [] i m = elim i [ ]
   of_member a x (y ∷ l) (Memᴰ.head e) m = Memᴰ.append_left (of_all numbers l) (subst (λ (z : A). Memᴰ a (numbers z)) e m)
   of_member a x (y ∷ l) (Memᴰ.tail i) m = Memᴰ.append_right (numbers y) (of_member a x l i m)
 

@@ -47,6 +47,7 @@ module _ (rule : Rule) where
 
   stays_each : (next n : ℕ) (a : Acknowledges) (l : List Acknowledges) → passes_all rule next l n ≡ true → Memᴰ a l
       → rule next a n ≡ true
+  stays_each next n a [] h m = elim m [ ]
   stays_each next n a (x ∷ l) h (Memᴰ.head e) =
       ap (λ (y : Acknowledges). rule next y n) e ∙ (and_parts (rule next x n) (passes_all rule next l n) h).0
   stays_each next n a (x ∷ l) h (Memᴰ.tail m) = stays_each next n a l (and_parts (rule next x n) (passes_all rule next l n) h).1 m

@@ -70,6 +70,7 @@ turned : {A : Type 0} (x y z a : A) → Memᴰ a (x ∷ y ∷ z ∷ []) → Mem�
 turned x y z a (Memᴰ.head e) = Memᴰ.tail (Memᴰ.tail (Memᴰ.head e))
 turned x y z a (Memᴰ.tail (Memᴰ.head e)) = Memᴰ.tail (Memᴰ.head e)
 turned x y z a (Memᴰ.tail (Memᴰ.tail (Memᴰ.head e))) = Memᴰ.head e
+turned x y z a (Memᴰ.tail (Memᴰ.tail (Memᴰ.tail m))) = elim m [ ]
 
 pub same_left : seen_by unskipped (after in_order) ≡ seen_by unskipped (after reversed)
 unfolding after

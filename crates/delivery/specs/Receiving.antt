@@ -51,6 +51,7 @@ FedGenuine c pieces (Call.check t ∷ xs) = FedGenuine c pieces xs
 FedGenuine c pieces (Call.read room ∷ xs) = FedGenuine c pieces xs
 
 pub member : {A : Type 0} (P : A → Type 0) {a : A} (l : List A) → Memᴰ a l → All P l → P a
+member P [] m h = elim m [ ]
 member P (x ∷ l) (Memᴰ.head e) h = subst P (sym e) h.0
 member P (x ∷ l) (Memᴰ.tail m) h = member P l m h.1
 

@@ -296,6 +296,7 @@ module _ (c : Settings) (range : in_range c ≡ true) (conv32 : c.conv < 2 ^ 32)
       → u ≤ r.state.receiving.next
       → (has (fed r ds).state.receiving u ≡ true) × (0 < length (fed r ds).state.receiving.acks)
   unfolding fed
+  push_arrives u it [] r q by_r by_q n h bytes m j l = elim n [ ]
   push_arrives u it (d ∷ ds) r q by_r by_q (Memᴰ.head e) h bytes m j l =
       let r₁ : Station = (own r (Call.take_in d)).station in
       let x = one_goes_in u d r q by_r by_q m.0 j l (rw e at h) in
