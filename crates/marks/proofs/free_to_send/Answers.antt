@@ -10,22 +10,19 @@ pub bounds-marks-from : goal.bounds-marks-from
 bounds-marks-from c = search (rules, slot_low 128 c.args.marks.now c.args.from c.requires.2)
 
 pub returns-then-marks-from-eq0 : goal.returns-then-marks-from-eq0
-returns-then-marks-from-eq0 = (λ c.
-    let s = c.before.before in
-    free_stop 128 s.args.marks.now s.args.from _ (omega arith) refl s.requires.2 c.if1.true)
+returns-then-marks-from-eq0 c = let s = c in
+    free_stop 128 s.args.marks.now s.args.from _ (omega arith) refl s.requires.2 c.if-marks-from-eq0.true
 
 pub loop-next-preserved : goal.loop-next-preserved
-loop-next-preserved = (λ c.
-    let l = c.before.before in
-    let v = l.loop.invariant in
-    let m = l.before.before.before.args.marks.now in (
+loop-next-preserved c = let l = c in
+    let v = l.loop-next.invariant in
+    let m = l.args.marks.now in (
       v.0,
-      free_more 128 m l.loop.next _ (omega arith) v.1 v.0 c.if2.true,
-      further 128 m l.loop.next _ (omega arith) v.1 v.0 c.if2.true,
-    ))
+      free_more 128 m l.loop-next.next _ (omega arith) v.1 v.0 c.loop-next-test.true,
+      further 128 m l.loop-next.next _ (omega arith) v.1 v.0 c.loop-next-test.true,
+    )
 
 pub returns : goal.returns
-returns = (λ c.
-    let l = c.before.before in
-    free_stop 128 l.before.before.before.args.marks.now l.loop.next _ (omega arith) l.loop.invariant.1 l.loop.invariant.0
-    c.if2.false)
+returns c = let l = c in
+    free_stop 128 l.args.marks.now l.loop-next.next _ (omega arith) l.loop-next.invariant.1 l.loop-next.invariant.0
+    c.loop-next-test.false
