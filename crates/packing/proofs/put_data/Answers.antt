@@ -1,10 +1,8 @@
 -- `packing::put_data` meets its contract: the payload is copied behind its header.
--- Assumes nothing.
 use mathlib.Core.Path.{◌≡◌, ◌∙◌}
 use mathlib.Core.List.{List, ◌++◌}
 use Prim.Native.Nat.{ℕ, ◌+◌, ◌≤◌}
 use native.Mathlib.Omega.{arith}
-use borrow.Author.Rules.{rules}
 use lib.ListN.{length, length-append, length-take, length-drop}
 use lib.Seq.{sets}
 use Rattle.wire.specs.Headers.{encode}
@@ -14,8 +12,7 @@ use Rattle.wire.specs.declared.Header.{Header}
 use Rattle.pools.specs.Parts.{part}
 use Rattle.packing.specs.declared.Packer.{Packer}
 use Rattle.packing.specs.Packers.{Puts}
-use Rattle.packing.proofs.put_data.Statement.{statement}
-use Rattle.packing.proofs.put_data.Tie as tie
+use Rattle.packing.proofs.put_data.Goals as goal
 
 payload_puts : (mtu n : ℕ) (h : Header) (k q : Packer) (out lengths headed lengths' out' pool : List ℕ) (from len : ℕ)
     → Puts mtu n (encode h) k out lengths q headed lengths' → out' ≡ sets headed (k.at + 24) (part pool from len) → from
@@ -32,26 +29,9 @@ payload_puts mtu n h k q out lengths headed lengths' out' pool from len p e enou
       sizes = p.sizes;
     }
 
-returns : tie.Need-returns
+pub returns : goal.returns
 returns c =
-    let copied = c.before.before in
-    let headed = copied.before.before.before.before.before.before in
-    let entry = headed.before.before.before.before.before.before.before.before.before.before.before in
-    payload_puts _ _ _ _ _ _ _ _ _ _ _ _ _ headed.put-header.ensures copied.copy-part.ensures entry.requires.2
-
-pub put_data_spec : {M : Type 1} → statement M
-put_data_spec =
-    tie.close
-    (tie.spec
-    (search rules)
-    (search rules)
-    (search rules)
-    (search rules)
-    (search rules)
-    (search rules)
-    (search rules)
-    (search rules)
-    (search rules)
-    (search rules)
-    (search rules)
-    returns)
+    let copied = c in
+    let headed = copied in
+    let entry = headed in
+    payload_puts _ _ _ _ _ _ _ _ _ _ _ _ _ headed.put_header-behind.ensures copied.copy_part.ensures entry.requires.2

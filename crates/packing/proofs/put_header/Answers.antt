@@ -1,5 +1,4 @@
 -- `packing::put_header` meets its contract: room is made, and the header is written where the packer stood.
--- Assumes nothing.
 use mathlib.Core.Path.{◌≡◌, refl, ap, ◌∙◌}
 use mathlib.Core.Bool.{Bool, true, false, cond}
 use mathlib.Core.List.{List}
@@ -12,8 +11,7 @@ use Rattle.wire.specs.HeaderLaws.{length_encode}
 use Rattle.wire.specs.declared.Header.{Header}
 use Rattle.packing.specs.declared.Packer.{Packer}
 use Rattle.packing.specs.Packers.{fits, closed, MakesRoom, Puts}
-use Rattle.packing.proofs.put_header.Statement.{statement}
-use Rattle.packing.proofs.put_header.Tie as tie
+use Rattle.packing.proofs.put_header.Goals as goal
 
 of_chosen : (f : Packer → ℕ) (b : Bool) (x y : Packer) → f (cond b x y) ≡ cond b (f x) (f y)
 of_chosen f true x y = refl
@@ -32,21 +30,8 @@ header_puts mtu n h k room out lengths out' lengths' ok m w enough =
       sizes = m.sizes;
     }
 
-returns : tie.Need-returns
+pub returns : goal.returns
 returns c =
-    let wrote = c.before.before in
-    let made = wrote.before.before.before.before in
-    header_puts _ _ _ _ _ _ _ _ _ _ made.make-room.ensures wrote.write-header.ensures (search rules)
-
-pub put_header_spec : {M : Type 1} → statement M
-put_header_spec =
-    tie.close
-    (tie.spec
-    (search rules)
-    (search rules)
-    (search rules)
-    (search rules)
-    (search rules)
-    (search rules)
-    (search rules)
-    returns)
+    let wrote = c in
+    let made = wrote in
+    header_puts _ _ _ _ _ _ _ _ _ _ made.make_room-room.ensures wrote.write_header.ensures (search rules)
