@@ -9,7 +9,8 @@ use Rattle.protocol.specs.Ranges.{mss}
 use Rattle.protocol.specs.declared.Settings.{Settings}
 use Rattle.wire.specs.declared.Header.{Header}
 use Rattle.datagram.specs.Datagrams.{Segment, parse, segments, step_at}
-use Rattle.datagram.specs.StepLaws.{Begun, Remaining, Took, took, ended}
+use Rattle.datagram.specs.StepLaws.{Begun, Remaining, Took}
+use Rattle.datagram.proofs.StepLaws.{took, ended}
 use Rattle.datagram.specs.declared.Step.TheVariants as step
 use Rattle.session.specs.Input.{heard_by_sending, all_by_sending, ack_numbers, skipped_by_all}
 use Rattle.acknowledge.specs.Flights.{View, half_with, FlightIs, HearsAll}

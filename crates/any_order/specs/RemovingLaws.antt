@@ -11,7 +11,7 @@ use mathlib.Core.List.{List, [], ◌∷◌, ◌++◌, Memᴰ}
 use Rattle.lists.specs.declared.Sent.{Sent}
 use Rattle.lists.specs.declared.Acknowledges.{Acknowledges}
 use Rattle.lists.specs.Acknowledging.{select, filter, first_number_or}
-use Rattle.lists.specs.AcknowledgingLaws.{select_same, filter_both}
+use Rattle.lists.proofs.AcknowledgingLaws.{select_same, filter_both}
 use Rattle.session.specs.Decides.{and_parts}
 use Rattle.any_order.specs.Removing.{InFlight, Rule, every_before, unless_ahead, staying, passes_all, takes, SameMembers, AnyOrder}
 

@@ -3,4 +3,3 @@ pub mod FoundLaws
 pub mod WalkLaws
 pub mod StepLaws
 pub mod Joined
-pub mod JoinedLaws

@@ -1,22 +1,15 @@
 -- For a caller's loop over `segment_at`: what remains of an accepted datagram, segment by segment.
--- `accepted` begins, `took` goes past a segment, `ended` says that none is left.
+-- `accepted` begins.
 -- Assumes nothing.
-use Rattle.std.specs.Prelude.{◌≡◌, refl, List, [], ◌∷◌, ℕ, ◌+◌, ◌-◌, ◌≤◌, ◌<◌, take, drop}
+use Rattle.std.specs.Prelude.{◌≡◌, refl, List, ◌∷◌, ℕ, ◌+◌, ◌-◌, ◌≤◌, take, drop}
 use Rattle.std.proofs.Common.{sym, ◌∙◌, arith}
 use Rattle.std.proofs.Math.Decide.{dec_le}
-use borrow.Author.Tests.{le-leb, lt-leb}
-use Rattle.std.proofs.Math.ListN.{length, length-drop}
-use Rattle.std.proofs.Math.Seq.{drop-drop, length-take-le}
-use Rattle.wire.specs.Headers.{decode}
-use Rattle.wire.specs.HeaderLaws.{decode_drop}
+use Rattle.std.proofs.Math.ListN.{length}
 use Rattle.wire.specs.declared.Header.{Header}
 use Rattle.protocol.specs.declared.Refusal.{Refusal}
-use Rattle.datagram.specs.declared.Verdict.{Verdict}
-use Rattle.datagram.specs.declared.Verdict.TheVariants.{Passes, Fails}
 use Rattle.datagram.specs.declared.Checked.TheVariants.{Accepted, Refused}
-use Rattle.datagram.specs.declared.Step.TheVariants as step
-use Rattle.datagram.specs.Datagrams.{Segment, verdict, segment_of, Parsed, refused, segments, in_front, walk, parse, counted, step_at}
-use Rattle.datagram.specs.WalkLaws.{Passed, passed, tail_none, walk_end, walk_at, parse_long, parse_short}
+use Rattle.datagram.specs.Datagrams.{Segment, Parsed, refused, segments, walk, parse, counted}
+use Rattle.datagram.specs.WalkLaws.{Passed, passed, parse_long, parse_short}
 
 -- the segments gs remain at index i of s
 pub record Remaining (conv mss : ℕ) (s : List ℕ) (i : ℕ) (gs : List Segment) : Type 0 where
@@ -54,20 +47,6 @@ module _ (conv mss : ℕ) (s : List ℕ) where
           let k : n ≡ 0 + length gs = cc in
           record { all = gs; parsed = q; count = omega arith; remaining = parsed_remaining gs q }
 
--- ---- a step
-
--- a segment stands in front of the others: it has passed
-record Front (v : Verdict) (g : Segment) (p : Parsed) (gs : List Segment) : Type 0 where
-  others : List Segment
-  passes : v ≡ Passes
-  whole : gs ≡ g ∷ others
-  rest : p ≡ segments others
-
-front : (v : Verdict) (g : Segment) (p : Parsed) (gs : List Segment) → in_front v g p ≡ segments gs → Front v g p gs
-front Passes g (refused r) gs e = absurd (let z : ◌≡◌ {A = ℕ} 0 1 = cc in omega arith)
-front Passes g (segments hs) gs e = record { others = hs; passes = refl; whole = cc; rest = refl }
-front (Fails r) g p gs e = absurd (let z : ◌≡◌ {A = ℕ} 0 1 = cc in omega arith)
-
 -- the first of the segments gs that remain at i has the header h, its payload from start on, and next behind it
 pub record Took (conv mss : ℕ) (s : List ℕ) (i : ℕ) (gs : List Segment) (h : Header) (start next : ℕ) : Type 0 where
   pub others : List Segment
@@ -78,58 +57,3 @@ pub record Took (conv mss : ℕ) (s : List ℕ) (i : ℕ) (gs : List Segment) (h
   pub long : length (take h.len (drop start s)) ≡ h.len
   pub passed : Passed conv mss (length s - (i + 24)) h
   pub remaining : Remaining conv mss s next others
-
-module _ (conv mss : ℕ) (s : List ℕ) (i : ℕ) (gs : List Segment) (r : Remaining conv mss s i gs) where
-  short : length s < i + 24 → gs ≡ []
-  short h = tail_none (drop i s) gs (sym (walk_end conv mss s i h) ∙ r.walked)
-
-  front_at : i + 24 ≤ length s → Front (verdict conv mss (length s - (i + 24)) (decode s i)) (segment_of (drop i s))
-      (walk conv mss 0 (drop (i + 24 + (decode s i).len) s)) gs
-  front_at h = front _ _ _ gs (sym (walk_at conv mss s i h) ∙ r.walked)
-
-  -- where a header stands, all of its segment does
-  step_at_lem : i + 24 ≤ length s → step_at s i ≡ step.Segment (decode s i) (i + 24) (i + 24 + (decode s i).len)
-  unfolding step_at
-  step_at_lem h =
-      let p = passed _ _ _ _ (front_at h).passes in
-      rw (le-leb (i + 24) (length s) h, le-leb (i + 24 + (decode s i).len) (length s) (omega (arith, p.inside)))
-
-  step_short : length s < i + 24 → step_at s i ≡ step.End
-  unfolding step_at
-  step_short h = rw (lt-leb (i + 24) (length s) h)
-
-  pub ended : step_at s i ≡ step.End → gs ≡ []
-  ended e = go (dec_le (i + 24) (length s))
-    where
-      go : Dec (i + 24 ≤ length s) → gs ≡ []
-      go (yes h) = absurd (let p = sym (step_at_lem h) ∙ e in let z : ◌≡◌ {A = ℕ} 0 1 = cc in omega arith)
-      go (no h) = short (omega arith)
-
-  taken : i + 24 ≤ length s → Took conv mss s i gs (decode s i) (i + 24) (i + 24 + (decode s i).len)
-  unfolding segment_of
-  taken h =
-      let f = front_at h in
-      let p = passed _ _ _ _ f.passes in
-      let inside : i + 24 + (decode s i).len ≤ length s = omega (arith, p.inside) in
-      record {
-        others = f.others;
-        whole = rw (decode_drop i s, drop-drop 24 i s) at f.whole;
-        starts = refl;
-        follows = refl;
-        inside = inside;
-        long = length-take-le _ _ (rw length-drop (omega arith));
-        passed = p;
-        remaining = record { inside = inside; walked = f.rest };
-      }
-
-  pub took : (h : Header) (start next : ℕ) → step_at s i ≡ step.Segment h start next → Took conv mss s i gs h start next
-  took h start next e = go (dec_le (i + 24) (length s))
-    where
-      go : Dec (i + 24 ≤ length s) → Took conv mss s i gs h start next
-      go (no p) = absurd (let q = sym (step_short (omega arith)) ∙ e in let z : ◌≡◌ {A = ℕ} 0 1 = cc in omega arith)
-      go (yes p) =
-          let q = sym e ∙ step_at_lem p in
-          let head : h ≡ decode s i = cc in
-          let from : start ≡ i + 24 = cc in
-          let to : next ≡ i + 24 + (decode s i).len = cc in
-          rw (to, from, head) (taken p)

@@ -13,7 +13,7 @@ use Rattle.protocol.specs.Serial.{plus, minus}
 use Rattle.protocol.specs.declared.Settings.{Settings}
 use Rattle.datagram.specs.Datagrams.{Segment, Parsed, parse}
 use Rattle.datagram.specs.Joined.{Valid, AllValid}
-use Rattle.datagram.specs.JoinedLaws.{parse_whole}
+use Rattle.datagram.proofs.JoinedLaws.{parse_whole}
 use Rattle.timing.specs.Probes.{next_clock}
 use Rattle.lists.specs.declared.Held.{Held}
 use Rattle.lists.specs.declared.Sent.{Sent}

@@ -36,8 +36,9 @@ use Rattle.session.specs.Reading.{
 use Rattle.session.specs.Updating.{Updates}
 use Rattle.session.specs.Decides.{All, and_parts}
 use Rattle.session.specs.AllLaws.{all_left}
-use Rattle.session.specs.IsValid.{IsValid, valid_decides}
-use Rattle.session.specs.ReadyLaws.{ready_below_window}
+use Rattle.session.specs.IsValid.{IsValid}
+use Rattle.session.proofs.ValidDecides.{valid_decides}
+use Rattle.session.proofs.ReadyLaws.{ready_below_window}
 use Rattle.words.specs.Words.{unpack, held_in}
 use Rattle.control.specs.declared.Link.{Link}
 use Rattle.control.specs.Views.{arrays_of, Whole, state_of, counts_fit, block_valid}

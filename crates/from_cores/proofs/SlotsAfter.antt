@@ -14,7 +14,7 @@ use Rattle.protocol.specs.declared.Settings.{Settings}
 use Rattle.wire.specs.declared.Header.{Header}
 use Rattle.datagram.specs.Datagrams.{Segment}
 use Rattle.lists.specs.Acknowledging.{select, skip_before}
-use Rattle.lists.specs.AcknowledgingLaws.{skip_held}
+use Rattle.lists.proofs.AcknowledgingLaws.{skip_held}
 use Rattle.lists.specs.declared.Held.{Held}
 use Rattle.lists.specs.declared.Sent.{Sent}
 use Rattle.lists.specs.declared.Acknowledges.{Acknowledges}
@@ -25,7 +25,7 @@ use Rattle.session.specs.Valid.{valid}
 use Rattle.session.specs.Decides.{All, or_parts}
 use Rattle.session.specs.AllLaws.{all_mapped}
 use Rattle.session.specs.Once.{Distinct, once_distinct, distinct_once}
-use Rattle.session.specs.IsValid.{valid_decides}
+use Rattle.session.proofs.ValidDecides.{valid_decides}
 use Rattle.session.specs.Flushing.{numbered, window_of, numbered_count, with_numbered, flushing}
 use Rattle.session.specs.MapLaws.{map_unchanged}
 use Rattle.session.specs.RuleLaws.{after_unchanged}

@@ -23,7 +23,7 @@ use Rattle.session.specs.State.{refused}
 use Rattle.session.specs.Input.{input}
 use Rattle.session.specs.Decides.{and_parts, leb_decides, and_decides}
 use Rattle.session.specs.Ascending.{ascending_ascends}
-use Rattle.session.specs.IsValid.{valid_decides}
+use Rattle.session.proofs.ValidDecides.{valid_decides}
 use Rattle.control.specs.Views.{arrays_of, Whole, state_of, counts_fit, block_valid, pairs}
 use Rattle.control.specs.ViewLaws.{counts}
 use Rattle.control.specs.declared.Link.{Link}

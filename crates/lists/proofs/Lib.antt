@@ -2,3 +2,4 @@ pub mod Loops
 pub mod Writes
 pub mod Searches
 pub mod Advances
+pub mod AcknowledgingLaws

@@ -4,7 +4,6 @@ pub mod OrderLaws
 pub mod Receiving
 pub mod ReceivingLaws
 pub mod Acknowledging
-pub mod AcknowledgingLaws
 pub mod UnaEdges
 pub mod Joining
 pub mod JoiningLaws

@@ -10,7 +10,7 @@ use Rattle.protocol.specs.Ranges.{in_range}
 use Rattle.protocol.specs.declared.Settings.{Settings}
 use Rattle.protocol.specs.declared.Refusal.TheVariants.{NoMessage}
 use Rattle.wire.specs.LittleEndian.{AllBytes}
-use Rattle.session.specs.ReceivingValid.{receiving_decides}
+use Rattle.session.proofs.ValidDecides.{receiving_decides}
 use Rattle.session.specs.Calls.{Station, Call, Reply, Event, own, datagrams_in, datagrams_by}
 use Rattle.session.specs.Decides.{All}
 use Rattle.session.specs.AllLaws.{all_left, all_right, all_unmapped}

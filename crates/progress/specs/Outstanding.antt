@@ -18,7 +18,7 @@ use Rattle.lists.specs.declared.Held.{Held}
 use Rattle.lists.specs.declared.Sent.{Sent}
 use Rattle.lists.specs.Orders.{sent_offset}
 use Rattle.lists.specs.Acknowledging.{select, filter, first_number_or, skip_before}
-use Rattle.lists.specs.AcknowledgingLaws.{skip_number}
+use Rattle.lists.proofs.AcknowledgingLaws.{skip_number}
 use Rattle.session.specs.Slots.{occurs}
 use Rattle.session.specs.State.{Sending, Receiving, with_outstanding}
 use Rattle.session.specs.Input.{acknowledges, heard_by_sending, all_by_sending, furthest, skipped, skipped_by_all}

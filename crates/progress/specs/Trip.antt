@@ -32,8 +32,9 @@ use Rattle.session.specs.Calls.{Station, Call, Reply, Stepped, after_take_in, af
 use Rattle.session.specs.Decides.{All}
 use Rattle.session.specs.AllLaws.{all_weaker}
 use Rattle.session.specs.Ascending.{Ascends, ascending_ascends}
-use Rattle.session.specs.ReceivingValid.{ReceivingIsValid, StartsAt, receiving_decides}
-use Rattle.session.specs.ReadyLaws.{half_below_window}
+use Rattle.session.specs.ReceivingValid.{ReceivingIsValid, StartsAt}
+use Rattle.session.proofs.ValidDecides.{receiving_decides}
+use Rattle.session.proofs.ReadyLaws.{half_below_window}
 use Rattle.session.specs.SendOrder.{Numbers}
 use Rattle.delivery.specs.Hearing.{CallFits, FewPushes}
 use Rattle.delivery.specs.PlainReceiver.{push_numbers, pushes_in}

@@ -19,7 +19,7 @@ use Rattle.sizes.specs.declared.Lengths.{Lengths}
 use Rattle.session.specs.State.{Outcome, refused}
 use Rattle.session.specs.Decides.{and_parts}
 use Rattle.session.specs.AllLaws.{all_left}
-use Rattle.session.specs.IsValid.{valid_decides}
+use Rattle.session.proofs.ValidDecides.{valid_decides}
 use Rattle.words.specs.Words.{held_in, waiting_in}
 use Rattle.control.specs.Views.{state_of, counts_fit, block_valid}
 use Rattle.control.specs.ViewLaws.{Counts, counts}

@@ -10,7 +10,8 @@ use Rattle.protocol.specs.Ranges.{mss}
 use Rattle.protocol.specs.declared.Settings.{Settings}
 use Rattle.wire.specs.declared.Header.{Header}
 use Rattle.datagram.specs.Datagrams.{Segment, parse, segments, step_at}
-use Rattle.datagram.specs.StepLaws.{Begun, Remaining, Took, took, ended}
+use Rattle.datagram.specs.StepLaws.{Begun, Remaining, Took}
+use Rattle.datagram.proofs.StepLaws.{took, ended}
 use Rattle.datagram.specs.declared.Step.TheVariants as step
 use Rattle.session.specs.Input.{heard_by_receiving, all_by_receiving}
 use Rattle.receive.specs.Halves.{Half, receiver_of, segment_at, Sound, HalfIs, HearsAll}

@@ -26,7 +26,7 @@ use Rattle.session.specs.Sending.{Sends, sending, place, filled}
 use Rattle.session.specs.AllLaws.{all_right, all_mapped}
 use Rattle.session.specs.Once.{Once, once_distinct}
 use Rattle.session.specs.UsedSlots.{distinct_few}
-use Rattle.session.specs.IsValid.{valid_decides}
+use Rattle.session.proofs.ValidDecides.{valid_decides}
 use Rattle.slots.specs.Slots.{slots_of}
 use Rattle.words.specs.Words.{unpack, held_in}
 use Rattle.marks.specs.Marks.{Free}

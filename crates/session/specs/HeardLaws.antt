@@ -12,7 +12,7 @@ use Rattle.lists.specs.declared.Sent.{Sent}
 use Rattle.lists.specs.declared.Acknowledges.TheVariants as by
 use Rattle.lists.specs.Acknowledging as rule
 use Rattle.lists.specs.Acknowledging.{filter, first_number_or}
-use Rattle.lists.specs.AcknowledgingLaws.{select_same, filter_both}
+use Rattle.lists.proofs.AcknowledgingLaws.{select_same, filter_both}
 use Rattle.session.specs.State.{Sending, with_window}
 use Rattle.session.specs.Input.{acknowledged, acknowledges, sampled_by, heard_by_sending}
 

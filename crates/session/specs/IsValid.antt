@@ -1,16 +1,15 @@
 -- Refusal 13's conditions on a whole state as a plain statement, and that the test passes exactly where they hold.
 -- Assumes nothing.
-use Rattle.std.specs.Prelude.{Bool, ◌≤◌}
+use Rattle.std.specs.Prelude.{◌≤◌}
 use Rattle.protocol.specs.Protocol.{mtu_least, mtu_most, mode_most, interval_least, interval_most, threshold_most, stream_most, congestion_most}
 use Rattle.protocol.specs.Ranges.{in_range, mss}
 use Rattle.protocol.specs.declared.Settings.{Settings}
 use Rattle.congestion.specs.Congestions.{InRange}
 use Rattle.timing.specs.TimeRanges.{WaitInRange}
 use Rattle.session.specs.State.{State}
-use Rattle.session.specs.Valid.{valid}
 use Rattle.session.specs.Decides.{Decides, leb_decides, and_decides, via}
-use Rattle.session.specs.SendingValid.{SendingIsValid, sending_decides, probe_decides, congestion_decides}
-use Rattle.session.specs.ReceivingValid.{ReceivingIsValid, receiving_decides}
+use Rattle.session.specs.SendingValid.{SendingIsValid}
+use Rattle.session.specs.ReceivingValid.{ReceivingIsValid}
 
 -- settings in range
 pub record SettingsInRange (c : Settings) : Type 0 where
@@ -57,16 +56,3 @@ pub record IsValid (s : State) : Type 0 where
   pub receiving : ReceivingIsValid s.settings s.receiving
   pub probe : WaitInRange s.probe.wait
   pub congestion : InRange (mss s.settings) s.congestion
-
-pub valid_decides : (s : State) → Decides (valid s) (IsValid s)
-unfolding valid
-valid_decides s =
-    via
-    (and_decides
-    (and_decides
-    (and_decides (and_decides (settings_decide s.settings) (sending_decides s.settings s.sending))
-    (receiving_decides s.settings s.receiving))
-    (probe_decides s.probe))
-    (congestion_decides (mss s.settings) s.congestion))
-    (λ x. record { settings = x.0.0.0.0; sending = x.0.0.0.1; receiving = x.0.0.1; probe = x.0.1; congestion = x.1 })
-    (λ x. ((((x.settings, x.sending), x.receiving), x.probe), x.congestion))

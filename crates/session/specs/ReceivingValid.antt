@@ -10,12 +10,10 @@ use Rattle.lists.specs.declared.Waiting.{Waiting}
 use Rattle.lists.specs.Orders.{waiting_offset}
 use Rattle.session.specs.State.{Receiving, receive_held, slots}
 use Rattle.lists.specs.Receiving.{starts_at}
-use Rattle.session.specs.Valid.{all, held_fits, waiting_fits, settled, receiving_valid}
-use Rattle.session.specs.Decides.{Decides, All, leb_decides, ltb_decides, eqb_decides, and_decides, all_decides, via}
-use Rattle.session.specs.AllLaws.{all_both, all_one, all_other}
+use Rattle.session.specs.Valid.{all, held_fits, waiting_fits, settled}
+use Rattle.session.specs.Decides.{Decides, All, leb_decides, ltb_decides, eqb_decides, and_decides, all_decides}
 use Rattle.session.specs.Once.{Once}
 use Rattle.session.specs.Ascending.{Ascending, ascending_decides}
-use Rattle.session.specs.SendingValid.{slots_decide}
 
 -- the list starts with the number n: its first offset from n is 0
 abbrev pub StartsAt : ℕ → List Waiting → Type 0
@@ -40,13 +38,13 @@ pub record ReceivingIsValid (c : Settings) (r : Receiving) : Type 0 where
 
 -- ---- each test decides its condition
 
-abbrev Short : ℕ → Held → Type 0
+abbrev pub Short : ℕ → Held → Type 0
 Short m h = h.len ≤ m
 
-abbrev Fragment : Held → Type 0
+abbrev pub Fragment : Held → Type 0
 Fragment h = h.fragment ≤ fragment_most
 
-held_decide : (m : ℕ) (l : List Held) → Decides (all (held_fits m) l) (All (λ (h : Held). Short m h × Fragment h) l)
+pub held_decide : (m : ℕ) (l : List Held) → Decides (all (held_fits m) l) (All (λ (h : Held). Short m h × Fragment h) l)
 held_decide m = all_decides (held_fits m) (λ (h : Held). Short m h × Fragment h)
     (λ h. and_decides (leb_decides h.len m) (leb_decides h.fragment fragment_most))
 
@@ -61,50 +59,13 @@ not_both_decides true true p q = record { holds = λ e. absurd (false≢true e);
 not_both_decides true false p q = record { holds = λ e x y. false≢true (q.passes x); passes = λ f. refl }
 not_both_decides false b p q = record { holds = λ e x y. false≢true (p.passes y); passes = λ f. refl }
 
-settled_decides : (r : Receiving) → Decides (settled r) (length r.ready < receive_window → StartsAt r.next r.waiting → ⊥)
+pub settled_decides : (r : Receiving) → Decides (settled r) (length r.ready < receive_window → StartsAt r.next r.waiting → ⊥)
 unfolding settled
 settled_decides r =
     not_both_decides (starts_at r.next r.waiting) (ltb (length r.ready) receive_window)
     (starts_decides r.next r.waiting)
     (ltb_decides (length r.ready) receive_window)
 
-waiting_decides : (r : Receiving) → Decides (waiting_fits r) (Ascending (waiting_offset r.next) receive_window r.waiting)
+pub waiting_decides : (r : Receiving) → Decides (waiting_fits r) (Ascending (waiting_offset r.next) receive_window r.waiting)
 unfolding waiting_fits
 waiting_decides r = ascending_decides (waiting_offset r.next) receive_window r.waiting
-
--- ---- the half
-
-pub receiving_decides : (c : Settings) (r : Receiving) → Decides (receiving_valid c r) (ReceivingIsValid c r)
-unfolding receiving_valid
-receiving_decides c r =
-    via
-    (and_decides
-    (and_decides
-    (and_decides
-    (and_decides (and_decides (held_decide (mss c) held) (slots_decide receive_slots held)) (leb_decides (length r.ready) receive_window))
-    (waiting_decides r))
-    (settled_decides r))
-    (leb_decides (length r.acks) acks_most))
-    (λ p. record {
-      lengths = all_one (Short (mss c)) Fragment held p.0.0.0.0.0;
-      fragments = all_other (Short (mss c)) Fragment held p.0.0.0.0.0;
-      slots_below = p.0.0.0.0.1.0;
-      slots_once = p.0.0.0.0.1.1;
-      few_ready = p.0.0.0.1;
-      ascending = p.0.0.1;
-      settles = p.0.1;
-      few_acks_lem = p.1;
-    })
-    (λ v. (
-      (
-        (
-          ((all_both (Short (mss c)) Fragment held v.lengths v.fragments, (v.slots_below, v.slots_once)), v.few_ready),
-          v.ascending,
-        ),
-        v.settles,
-      ),
-      v.few_acks_lem,
-    ))
-  where
-    held : List Held
-    held = receive_held r

@@ -18,7 +18,7 @@ use Rattle.lists.specs.declared.Sent.{Sent}
 use Rattle.lists.specs.declared.Waiting.{Waiting}
 use Rattle.lists.specs.declared.Acknowledges.TheVariants as by
 use Rattle.lists.specs.Acknowledging.{select, skip_before}
-use Rattle.lists.specs.AcknowledgingLaws.{skip_number}
+use Rattle.lists.proofs.AcknowledgingLaws.{skip_number}
 use Rattle.lists.specs.Orders.{waiting_offset, is_held, insert}
 use Rattle.lists.specs.ReceivingLaws.{advance_held}
 use Rattle.session.specs.Decides.{or_parts}

@@ -1,0 +1,2 @@
+pub mod ValidDecides
+pub mod ReadyLaws
