@@ -1,5 +1,4 @@
 -- `listing::judge` meets its contract: the tests that led to each `return` pick the case of `listed`.
--- Assumes nothing.
 use mathlib.Core.Path.{◌≡◌, sym, ◌∙◌}
 use mathlib.Core.List.{List}
 use Prim.Native.Nat.{ℕ, ◌≤◌, ◌<◌}
@@ -16,8 +15,7 @@ use Rattle.datagram.specs.declared.Checked.{Checked}
 use Rattle.datagram.specs.declared.Checked.TheVariants.{Refused}
 use Rattle.listing.specs.Listings.{judged}
 use Rattle.listing.specs.ListingLaws.{listed_long, listed_parse}
-use Rattle.listing.proofs.judge.Statement.{statement}
-use Rattle.listing.proofs.judge.Tie as tie
+use Rattle.listing.proofs.judge.Goals as goal
 
 module _ (s : List ℕ) where
   long : 65536 < length s → Refused ShortPart ≡ judged s
@@ -30,17 +28,11 @@ module _ (s : List ℕ) where
   unfolding decode
   walked p h f r e = rw (e, listed_parse s p, (found_whole s 0 h f).header)
 
-pub judge_spec : {M : Type 1} → statement M
-judge_spec =
-    tie.close
-    (tie.spec
-    (λ c. long _ (search rules))
-    (search rules)
-    (search rules)
-    (search rules)
-    (λ c. let call = c.before.before in short _ (search rules) (sym call.find-header.ensures ∙ c.enum_told.given.1))
-    (search rules)
-    (λ c.
-    let found = c.before.before in
-    let call = found.before.before in
-    walked _ (search rules) _ (sym call.find-header.ensures ∙ found.found.given.1) _ c.check.ensures))
+pub returns-then-s-gt-DATAGRAM_MOST : goal.returns-then-s-gt-DATAGRAM_MOST
+returns-then-s-gt-DATAGRAM_MOST c = long _ (search rules)
+
+pub returns-in_default : goal.returns-in_default
+returns-in_default c = short _ (search rules) (sym c.find_header-found.ensures ∙ c.in_default.is)
+
+pub returns : goal.returns
+returns c = walked _ (search rules) _ (sym c.find_header-found.ensures ∙ c.in-Whole.is) _ c.check.ensures
