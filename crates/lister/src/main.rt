@@ -1,5 +1,6 @@
 // Lists the segments of the datagram on standard input.
 #![tactic(auto)]
+
 ghost use Rattle.std.specs.Prelude.{◌≤◌, IfOk, length};
 
 use std::io;
