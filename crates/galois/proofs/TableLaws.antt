@@ -1,9 +1,9 @@
 -- The rule of the two tables, computed once over all entries; products and inverses by powers.
 -- Assumes nothing.
-use Rattle.std.specs.Prelude.{◌≡◌, refl, Bool, true, false, cond, ◌&&◌, List, [], ◌∷◌, ℕ, zero, suc, ◌+◌, ◌*◌, ◌-◌, ◌/◌, ◌%◌, ◌≤◌, ◌<◌, T, eqb, ltb, length, get_or}
+use Rattle.std.specs.Prelude.{◌≡◌, refl, Bool, true, false, cond, List, [], ◌∷◌, ℕ, zero, suc, ◌+◌, ◌*◌, ◌-◌, ◌%◌, ◌<◌, T, eqb, ltb, length, get_or}
 use Rattle.std.proofs.Common.{sym, ap, ap₂, ◌∙◌, subst, add-zero, zero-add, add-suc, suc-add, le_of_suc-le-suc, not-suc-le-zero, suc-mul, arith, eqb→eq, ltb→lt}
 use Rattle.galois.specs.Field.{plus, double, doubled, power, mul, raised, inverse, LogOf}
-use Rattle.galois.specs.FieldLaws.{power_lt, power_mod, power_add, power_rounds, mul_assoc, one-mul, mul_lt, zero_mul}
+use Rattle.galois.specs.FieldLaws.{power_mod, power_add, power_rounds, mul_assoc, one-mul, mul_lt, zero_mul}
 use Rattle.galois.specs.Tables.{powers, logs}
 
 -- ---- the power table: each entry is twice the one before it
