@@ -13,7 +13,7 @@ use Rattle.std.proofs.Math.Dec.{ltb}
 use Rattle.std.proofs.Math.ListN.{length-drop}
 use Rattle.wire.specs.LittleEndian.{number_at}
 use Rattle.frames.specs.Lists.{count, every, among, different}
-use Rattle.frames.specs.Frames.{type_at, group}
+use Rattle.frames.specs.Frames.{type_at}
 use Rattle.frames.specs.Reading.{sequence_of, group_of, place_of, frame_ok, held_shard, has}
 use Rattle.frames.specs.PlaceLaws.{count_none}
 

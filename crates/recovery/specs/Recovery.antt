@@ -1,6 +1,6 @@
 -- Any k shards of a group of k datagrams give every byte of its data shards.
 -- Assumes nothing.
-use Rattle.std.specs.Prelude.{◌≡◌, ◌⊎◌, Bool, cond, ℕ, zero, suc, ◌+◌, ◌-◌, ◌≤◌, ◌<◌}
+use Rattle.std.specs.Prelude.{◌≡◌, ◌⊎◌, Bool, cond, ℕ, zero, suc, ◌+◌, ◌≤◌, ◌<◌}
 use Rattle.std.proofs.Math.Path.{refl, sym, ap, ap₂}
 use Rattle.std.proofs.Common.{◌∙◌, ⊎_elim, arith}
 use Rattle.std.proofs.Math.Bool.{true, false}
@@ -21,10 +21,10 @@ use Rattle.galois.specs.FieldLaws.{
   mul_plus_left,
   power_lt,
 }
-use Rattle.galois.specs.TableLaws.{power_positive, power_differs, undo_mul}
+use Rattle.galois.proofs.TableLaws.{power_positive, power_differs, undo_mul}
 use Rattle.frames.specs.Lists.{total, count, other}
 use Rattle.frames.specs.Frames.{shard, weight, parity_byte, shard_at}
-use Rattle.frames.specs.Reading.{has, rest, solved, byte_at, found}
+use Rattle.frames.specs.Reading.{has, rest, solved, byte_at}
 use Rattle.frames.specs.PlaceLaws.{total_same, total_plus, total_one, total_two, count_three, other_none, other_some, Lost}
 use Rattle.frames.specs.FrameLaws.{parity_at, shard_at_data, shard_at_parity}
 

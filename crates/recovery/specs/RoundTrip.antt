@@ -2,15 +2,15 @@
 -- Assumes nothing.
 use Rattle.std.specs.Prelude.{◌≡◌, ◌⊎◌, Bool, cond, ◌&&◌, ◌||◌, not, ℕ, zero, suc, ◌+◌, ◌-◌, ◌*◌, ◌/◌, ◌%◌, ◌≤◌, ◌<◌, take, drop}
 use Rattle.std.proofs.Math.Path.{refl, ap, ap₂}
-use Rattle.std.proofs.Common.{sym, ◌∙◌, subst, not-suc-le-zero, length-take, get_or-take, get_or-drop}
+use Rattle.std.proofs.Common.{sym, ◌∙◌, subst, not-suc-le-zero}
 use Rattle.std.proofs.Math.Logic.{inl, inr}
 use Rattle.std.proofs.Math.Bool.{true, false}
 use mathlib.Core.List.{List, [], ◌∷◌, map}
 use Rattle.std.proofs.Math.Nat.{add_comm, zero-add, mul-add-mod_self_right, add-mul-div_right, mod-eq_of_lt, div-eq_of_lt}
 use native.Mathlib.Omega.{arith}
-use borrow.Author.Tests.{leb-true, leb-false, eqb-true, ltb-true, ltb-false, le-ltb, le-leb, eq-eqb}
+use borrow.Author.Tests.{leb-true, leb-false, eqb-true, ltb-true, le-ltb, le-leb, eq-eqb}
 use Rattle.std.proofs.Math.Dec.{eqb, ltb, leb}
-use Rattle.std.proofs.Math.ListN.{length, get_or, get_or-eq_default}
+use Rattle.std.proofs.Math.ListN.{length, get_or}
 use Rattle.wire.specs.LittleEndian.{number_at, AllBytes}
 use Rattle.frames.specs.declared.Refusal.TheVariants.{ShortPart, SettingOutOfRange, NotAGroup, LateGroup}
 use Rattle.frames.specs.Lists.{listed, lengths_of, parts, add_up, largest, count, every, different}

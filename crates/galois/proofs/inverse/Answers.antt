@@ -1,8 +1,7 @@
 -- `galois::inverse` meets its contract: 2 to 255 less the logarithm.
 use mathlib.Core.Path.{◌∙◌, sym}
 use borrow.Author.Rules.{rules}
-use Rattle.galois.specs.Field.{inverse}
-use Rattle.galois.specs.TableLaws.{inverse_of, inverse_zero}
+use Rattle.galois.proofs.TableLaws.{inverse_of, inverse_zero}
 use Rattle.galois.proofs.inverse.Goals as goal
 
 pub returns-then-a-eq0 : goal.returns-then-a-eq0

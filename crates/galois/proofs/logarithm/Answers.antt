@@ -1,7 +1,7 @@
 -- `galois::logarithm` meets its contract: the table's rule.
 use borrow.Author.Rules.{rules}
 use Rattle.galois.specs.Tables.{logs}
-use Rattle.galois.specs.TableLaws.{log_entry}
+use Rattle.galois.proofs.TableLaws.{log_entry}
 use Rattle.galois.proofs.logarithm.Goals as goal
 
 pub returns : goal.returns

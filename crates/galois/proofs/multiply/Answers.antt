@@ -2,7 +2,7 @@
 use mathlib.Core.Path.{◌∙◌, sym}
 use borrow.Author.Rules.{rules}
 use Rattle.galois.specs.FieldLaws.{zero_mul, mul_zero}
-use Rattle.galois.specs.TableLaws.{product_of}
+use Rattle.galois.proofs.TableLaws.{product_of}
 use Rattle.galois.proofs.multiply.Goals as goal
 
 pub returns-then-a-eq0 : goal.returns-then-a-eq0

@@ -4,7 +4,7 @@ use Prim.Native.Nat.{◌%◌}
 use native.Mathlib.Omega.{arith}
 use Rattle.galois.specs.FieldLaws.{power_mod}
 use Rattle.galois.specs.Tables.{powers}
-use Rattle.galois.specs.TableLaws.{power_entry}
+use Rattle.galois.proofs.TableLaws.{power_entry}
 use Rattle.galois.proofs.power.Goals as goal
 
 pub returns : goal.returns
