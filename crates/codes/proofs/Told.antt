@@ -1,5 +1,4 @@
 -- A number told for an answer.
--- Assumes nothing.
 use mathlib.Core.Path.{◌≡◌}
 use lib.IntN.{ℤ}
 use Rattle.codes.specs.Gives.{Gives}
