@@ -5,5 +5,3 @@ pub mod NumberLaws
 pub mod Hearing
 pub mod OtherCallLaws
 pub mod HearingLaws
-pub mod AnyOrder
-pub mod Shuffled

@@ -18,11 +18,11 @@ use Rattle.lists.specs.declared.Acknowledges.{Acknowledges}
 use Rattle.lists.specs.declared.Acknowledges.TheVariants as by
 use Rattle.lists.specs.Acknowledging.{select, filter, first_number_or, one_skip, skip_before}
 use Rattle.session.specs.State.{State, Sending, with_window, with_outstanding}
-use Rattle.session.specs.Input.{Took, acknowledged, sampled_by, heard_by_sending, all_by_sending, applied}
+use Rattle.session.specs.Input.{acknowledged, sampled_by, heard_by_sending, all_by_sending, applied}
 use Rattle.session.specs.Input.{ack_numbers, furthest, skipped, skipped_by_all}
 use Rattle.any_order.specs.Removing.{InFlight, unless_ahead, staying, takes, SameMembers}
-use Rattle.any_order.specs.RemovingLaws.{takes_same, takes_joined}
-use Rattle.any_order.specs.Numbers.{numbers_of, of_all, numbers_in, numbers_in_all, applied_all, seen_by, unskipped, untimed}
+use Rattle.any_order.specs.RemovingLaws.{takes_joined}
+use Rattle.any_order.specs.Numbers.{numbers_of, of_all, numbers_in, seen_by, unskipped}
 
 -- ---- the same members have the same numbers
 
@@ -61,10 +61,6 @@ sees_unskipped = record { number = λ x. refl; skips = λ n x. go x (is_before x
     go : (x : Sent) (b : Bool) → unskipped (cond b (one_skip x) x) ≡ unskipped x
     go x true = refl
     go x false = refl
-
--- what is seen so is seen of the segment but its skip count
-pub sees_untimed : Sees untimed
-sees_untimed = record { number = λ x. refl; skips = λ n x. ap untimed (sees_unskipped.skips n x) }
 
 module _ (see : Sent → Sent) (sees : Sees see) where
   -- ---- one number
@@ -146,23 +142,3 @@ module _ (see : Sent → Sent) (sees : Sees see) where
   applied_takes s pool gs =
       skips_unseen (all_by_sending s.settings s.current s.sending gs) (ack_numbers gs)
       ∙ all_takes s.settings s.current gs s.sending
-
--- ---- datagrams in whatever order
-
-applied_all_takes : (l : List (List Segment)) (x : Took)
-    → seen_by unskipped (applied_all x l).state.sending ≡ takes unless_ahead (seen_by unskipped x.state.sending) (numbers_in_all l)
-unfolding applied_all of_all takes
-applied_all_takes [] x = refl
-applied_all_takes (gs ∷ l) x =
-    applied_all_takes l (applied x.state x.pool gs)
-    ∙ ap (λ (y : InFlight). takes unless_ahead y (numbers_in_all l)) (applied_takes unskipped sees_unskipped x.state x.pool gs)
-    ∙ takes_joined unless_ahead (seen_by unskipped x.state.sending) (numbers_in gs) (numbers_in_all l)
-
--- two lists of datagrams with the same una and ack numbers, taken in from the same state, leave the same outstanding segments, each in all
--- but its skip count, and the same snd_una
-pub same_in_any_order : (x : Took) (ds es : List (List Segment)) → SameMembers (numbers_in_all ds) (numbers_in_all es)
-    → seen_by unskipped (applied_all x ds).state.sending ≡ seen_by unskipped (applied_all x es).state.sending
-same_in_any_order x ds es i =
-    applied_all_takes ds x
-    ∙ takes_same unless_ahead (seen_by unskipped x.state.sending) (numbers_in_all ds) (numbers_in_all es) i
-    ∙ sym (applied_all_takes es x)

@@ -25,7 +25,8 @@ use Rattle.promises.specs.Promises.{place_of}
 use Rattle.codes.specs.Codes.{refusal_code, answer_code, size_code, count_code}
 use Rattle.codes.specs.Gives.{Gives}
 use Rattle.results.specs.PlaceCodes.{place_code}
-use Rattle.demands.specs.CountLaws.{OfResult, MessageFits, PlaceFits, flushes_few, reads_fit, tells_fit, shows_fit}
+use Rattle.demands.specs.CountLaws.{OfResult, MessageFits, PlaceFits}
+use Rattle.demands.proofs.CountLaws.{flushes_few, reads_fit, tells_fit, shows_fit}
 use Rattle.asks.specs.Places.{PlacePromise}
 
 -- the very count of the result, or the refusal's number below zero

@@ -19,7 +19,8 @@ use Rattle.promises.specs.Answers.{update_answer, time_outcome}
 use Rattle.promises.specs.Promises.{UpdatePromise}
 use Rattle.codes.specs.Codes.{refusal_code, not_yet, update_code, time_code, time_stored}
 use Rattle.codes.specs.Gives.{Gives}
-use Rattle.demands.specs.CountLaws.{OfResult, FewDatagrams, updates_few}
+use Rattle.demands.specs.CountLaws.{OfResult, FewDatagrams}
+use Rattle.demands.proofs.CountLaws.{updates_few}
 use Rattle.asks.specs.Times.{TimePromise}
 
 -- the refusal's number below zero, the number of an update that does not flush, or the very count of its datagrams

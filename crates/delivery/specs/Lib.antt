@@ -27,14 +27,10 @@ pub mod SearchLaws
 pub mod ListLaws
 pub mod InsertLaws
 pub mod ParsedLaws
-pub mod PlainLaws
-pub mod FedLaws
 pub mod ReceiverModel
 pub mod PieceLaws
-pub mod Refinement
 pub mod ReceivePool
 pub mod ReceivingLaws
-pub mod ReceivingSteps
 pub mod Receiving
 pub mod SenderModel
 pub mod Numbering
@@ -44,7 +40,5 @@ pub mod CutBytes
 pub mod NumberingLaws
 pub mod QueuedBytes
 pub mod Ledger
-pub mod LedgerLaws
 pub mod AlwaysValid
-pub mod Demand3
 pub mod FirstFlush

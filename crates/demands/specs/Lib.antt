@@ -4,14 +4,6 @@ pub mod Claims
 pub mod OutputLaws
 pub mod CountLaws
 pub mod Relations
-pub mod RelationLaws
-pub mod Simulation
-pub mod RunLaws
-pub mod RefusalLaws
 pub mod AlwaysValid
-pub mod LedgerLaws
-pub mod QueuedBytes
-pub mod UpdateLaws
 pub mod Quiet
 pub mod QuietLaws
-pub mod Demand3

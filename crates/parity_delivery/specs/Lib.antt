@@ -1,3 +1,2 @@
 pub mod Recovered
 pub mod PackedLaws
-pub mod Demand3

@@ -35,8 +35,8 @@ use Rattle.delivery.specs.AlwaysValid.{InOrder}
 use Rattle.demands.specs.Steps.{Endpoint, Called, Runs, start, next}
 use Rattle.demands.specs.Stations.{station_of}
 use Rattle.demands.specs.Claims.{fragments_accepted}
-use Rattle.demands.specs.Simulation.{Preserved, own_call, preserved_call}
-use Rattle.demands.specs.RunLaws.{opens_station, opens_preserved, taken}
+use Rattle.demands.proofs.Simulation.{Preserved, own_call, preserved_call}
+use Rattle.demands.proofs.RunLaws.{opens_station, opens_preserved, taken}
 use Rattle.progress.specs.Had.{Pushes}
 use Rattle.progress.specs.Outstanding.{numbers_of, all_preserved, skips_numbers, flush_under}
 use Rattle.progress.specs.Carried.{

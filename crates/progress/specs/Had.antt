@@ -39,7 +39,7 @@ use Rattle.session.specs.AllLaws.{all_append, all_weaker}
 use Rattle.delivery.specs.PlainReceiver.{push_numbers}
 use Rattle.delivery.specs.FreeSlots.{occurs_append}
 use Rattle.delivery.specs.InsertLaws.{between_map, all_between}
-use Rattle.delivery.specs.FedLaws.{or-true, or_right}
+use Rattle.delivery.proofs.FedLaws.{or-true, or_right}
 use Rattle.progress.specs.SmallNumbers.{before_small, or_left}
 
 -- ---- what is had

@@ -4,7 +4,4 @@ pub mod Outstanding
 pub mod Carried
 pub mod TwoEnds
 pub mod Joint
-pub mod Trip
 pub mod Counting
-pub mod Moves
-pub mod RoundTrip

@@ -32,7 +32,7 @@ use Rattle.session.specs.SendOrder.{Numbers}
 use Rattle.session.specs.HeardLaws.{heard_outstanding}
 use Rattle.delivery.specs.FreeSlots.{occurs_append}
 use Rattle.delivery.specs.SendingFlushes.{flushed_with}
-use Rattle.delivery.specs.FedLaws.{or-true, or_right}
+use Rattle.delivery.proofs.FedLaws.{or-true, or_right}
 use Rattle.progress.specs.SmallNumbers.{after_small, or_left, or_both}
 use Rattle.progress.specs.Had.{has, waiting_numbers, Known, known_next}
 

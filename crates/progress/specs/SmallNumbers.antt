@@ -5,7 +5,7 @@ use Rattle.std.proofs.Common.{◌∙◌, inl, inr, arith, ltb-true, ltb-false, l
 use Rattle.std.proofs.lemmas.Bool.{lt-leb}
 use Rattle.protocol.specs.Serial.{minus, is_before, is_after}
 use Rattle.protocol.specs.SerialLaws.{before_test, after_test}
-use Rattle.delivery.specs.FedLaws.{or-true, or_right}
+use Rattle.delivery.proofs.FedLaws.{or-true, or_right}
 
 pub before_small : (a b : ℕ) → a < 2 ^ 31 → b < 2 ^ 31 → is_before a b ≡ ltb a b
 before_small a b x y = before_test a b ∙ go (ltb a b) refl

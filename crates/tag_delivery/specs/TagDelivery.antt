@@ -28,7 +28,7 @@ use Rattle.delivery.specs.Hearing.{
   second_checks,
 }
 use Rattle.demands.specs.Steps.{Endpoint, SinceOpening}
-use Rattle.demands.specs.Demand3.{demand_3}
+use Rattle.demands.proofs.Demand3.{demand_3}
 use Rattle.tag_message.specs.Messages.{name_in}
 use Rattle.tag_survey.specs.Tables.{entries_in, entry_at}
 use Rattle.tag_table.specs.Changes.{TakesTag}
@@ -77,16 +77,3 @@ module _
         let b = (demand_3 c calls heard heard events answers answers sender receiver receiver sends hears hears few fed fed
         (hears_itself heard)).first_receives.begins in
         subst (λ (l : List (List ℕ)). Memᴰ m l) b.whole (Memᴰ.append_left b.rest k)
-
-    -- one message that it has read, taken into a table
-    pub taken_from_link :
-        (m before : List ℕ) (a : Changing) (after : List ℕ) → Memᴰ m (messages_read (read_answers answers)) → TakesTag m before a after →
-        Genuine (accepted_for c events) m before after
-    taken_from_link m before a after k p = record { given = read_given m k; preserves = take_preserves m before a after p }
-
-    -- all messages that it has read, taken one after the other: an entry whose name the sender was never given in a message is as it was
-    pub all_taken :
-        (before after : List ℕ) → Takes (messages_read (read_answers answers)) before after → (i : ℕ) →
-        ((m : List ℕ) → Memᴰ m (accepted_for c events) → Other (name_in m) (entry_at (entries_in before) i)) →
-        entry_at (entries_in after) i ≡ entry_at (entries_in before) i
-    all_taken before after t i o = all_preserve t i (λ m k. o m (read_given m k))

@@ -82,7 +82,7 @@ use Rattle.demands.specs.Steps.{Endpoint, cut_by, Called, start, next, Opens, Si
 use Rattle.delivery.specs.Claims.{Delivered}
 use Rattle.demands.specs.Claims.{observed}
 use Rattle.demands.specs.Relations.{entries_of}
-use Rattle.demands.specs.Demand3.{demand_3}
+use Rattle.demands.proofs.Demand3.{demand_3}
 use Rattle.witnesses.specs.Blocks.{link_of, after_send, after_input, after_flush, after_reading}
 use Rattle.witnesses.specs.OfStations.{bytes_by, c}
 

@@ -65,7 +65,7 @@ use Rattle.promises.specs.Promises.{UpdatePromise, CheckPromise}
 use Rattle.demands.specs.Steps.{Endpoint, cut_by, Called, start, next, SinceOpening}
 use Rattle.demands.specs.Quiet as quiet
 use Rattle.demands.specs.Quiet.{StaysQuiet, NoSooner}
-use Rattle.demands.specs.QuietLaws.{stays_quiet, no_sooner, fits_since}
+use Rattle.demands.proofs.QuietLaws.{stays_quiet, no_sooner, fits_since}
 use Rattle.witnesses.specs.Blocks.{link_of, after_send}
 use Rattle.witnesses.specs.OfStations.{bytes_by, c}
 use Rattle.witnesses.specs.OfEndpoints.{parts, fresh, sent, datagram, opens_fresh, sends_it}

@@ -72,7 +72,7 @@ use Rattle.delivery.specs.PlainReceiver.{push_numbers, pushes_in}
 use Rattle.delivery.specs.Hearing.{CallFits, FewPushes, FedWith, HearsMore}
 use Rattle.delivery.specs.Claims.{Delivered}
 use Rattle.delivery.specs.Stations.{Opened, observed}
-use Rattle.delivery.specs.Demand3.{station_demand_3}
+use Rattle.delivery.proofs.Demand3.{station_demand_3}
 
 -- ---- bytes, by a test
 

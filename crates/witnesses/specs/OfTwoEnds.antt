@@ -98,7 +98,7 @@ use Rattle.progress.specs.TwoEnds.{
   GoodRoundTrip,
   Passed,
 }
-use Rattle.progress.specs.RoundTrip.{one_good_round_trip}
+use Rattle.progress.proofs.RoundTrip.{one_good_round_trip}
 use Rattle.witnesses.specs.Blocks.{link_of, after_input, after_flush}
 use Rattle.witnesses.specs.OfStations.{bytes_by, c}
 use Rattle.witnesses.specs.OfEndpoints.{parts, fresh, sent, flushed, datagram, opens_fresh, sends_it, flushes_it, reads_nothing}

@@ -30,68 +30,11 @@ use Rattle.answers.specs.declared.Time.{Time}
 use Rattle.answers.specs.declared.Time.TheVariants as time
 use Rattle.promises.specs.Parts.{Parts, FlushParts, state_in}
 use Rattle.promises.specs.Answers.{count_outcome, time_outcome}
-use Rattle.promises.specs.Promises.{
-  OpenPromise,
-  SendPromise,
-  InputPromise,
-  WrittenTo,
-  FlushPromise,
-  UpdatePromise,
-  CheckPromise,
-  ReadPromise,
-  SizePromise,
-  ShowPromise,
-  LiesAt,
-}
+use Rattle.promises.specs.Promises.{OpenPromise, SendPromise, InputPromise, WrittenTo, FlushPromise, UpdatePromise, CheckPromise, ReadPromise, SizePromise, ShowPromise, LiesAt}
 use Rattle.wrong_links.specs.Standing.{Lends, At}
-use Rattle.wrong_links.specs.StandingLaws.{
-  opening_goes,
-  send_goes,
-  input_goes,
-  flush_goes,
-  update_goes,
-  update_waits,
-  check_goes,
-  read_goes,
-  read_refused,
-  size_goes,
-  show_goes,
-}
+use Rattle.wrong_links.specs.StandingLaws.{opening_goes, send_goes, input_goes, flush_goes, update_goes, update_waits, check_goes, read_goes, read_refused, size_goes, show_goes}
 use Rattle.wrong_links.specs.Session as session
-use Rattle.wrong_links.specs.Session.{
-  is_done,
-  result_or,
-  settings,
-  send_pool,
-  receive_pool,
-  fresh,
-  first,
-  second,
-  one_sent,
-  both_sent,
-  flush,
-  flushed,
-  updated,
-  rested,
-  later_update,
-  datagrams,
-  acks,
-  acknowledged,
-  one_heard,
-  both_heard,
-  one_read,
-  both_read,
-  reads,
-  all_pass,
-  computed,
-}
-
--- an accepted call is not refused, whatever the refusal
-not_refused : {r : Refusal} → answer.Refused r ≡ answer.Accepted → ⊥
-not_refused e = let z : ◌≡◌ {A = ℕ} 0 1 = cc in omega arith
-
-not_refused_count : {r : Refusal} {n : ℕ} → count.Refused r ≡ count.Of n → ⊥
-not_refused_count e = let z : ◌≡◌ {A = ℕ} 0 1 = cc in omega arith
+use Rattle.wrong_links.specs.Session.{is_done, result_or, settings, send_pool, receive_pool, fresh, first, second, one_sent, both_sent, flush, flushed, updated, rested, later_update, datagrams, acks, acknowledged, one_heard, both_heard, one_read, both_read, reads, all_pass, computed}
 
 -- an outcome that is not refused is its result
 is_result : {A : Type 0} (x : A) (o : Outcome A) → is_done o ≡ true → o ≡ done (result_or x o)
@@ -236,36 +179,3 @@ module _ (l : Link) (p : Parts) where
 
   pub check_later : (a : Time) → At l p rested → CheckPromise 6 l p a → a ≡ time.At 105
   check_later a at h = time_at a 105 (check_goes l p rested at all_pass.one_rested 6 a h ∙ ap done computed.checks_later)
-
--- ---- a link that refuses everything
-
-module _ (l : Link) (p : Parts) (l' : Link) (p' : Parts) (r : Refusal) where
-  pub refuses_opening : Lends p send_pool receive_pool → OpenPromise settings l p (answer.Refused r) l' p' → ⊥
-  refuses_opening lends h = not_refused (opens l p l' p' _ lends h).0
-
-  pub refuses_send : At l p fresh → SendPromise first l p (answer.Refused r) l' p' → ⊥
-  refuses_send at h = not_refused (send_first l p l' p' _ at h).0
-
-  pub refuses_input : At l p fresh → InputPromise (get_or datagrams 0 []) l p (answer.Refused r) l' p' → ⊥
-  refuses_input at h = not_refused (input_first l p l' p' _ at h).0
-
-  pub refuses_flush : (f f' : FlushParts) → At l p both_sent → leb output_least (length f.output) ≡ true
-      → leb lengths_least (length f.lengths) ≡ true
-      → FlushPromise 5 l p f (count.Refused r) l' p' f' → ⊥
-  refuses_flush f f' at room number h = not_refused_count (flush_both l p l' p' _ f f' at room number h).0
-
-  pub refuses_update : (f f' : FlushParts) → At l p both_sent → leb output_least (length f.output) ≡ true
-      → leb lengths_least (length f.lengths) ≡ true
-      → UpdatePromise 5 l p f (update.Refused r) l' p' f' → ⊥
-  refuses_update f f' at room number h =
-      let e = (update_first l p l' p' f f' room number _ at h).0 in let z : ◌≡◌ {A = ℕ} 0 1 = cc in omega arith
-
-  pub refuses_read : (buffer buffer' : List ℕ) → length buffer ≡ 30 → At l p both_heard
-      → ReadPromise l p buffer (count.Refused r) l' p' buffer' → ⊥
-  refuses_read buffer buffer' room at h = not_refused_count (read_first l p l' p' _ buffer buffer' room at h).0
-
-pub refuses_size : (l : Link) (p : Parts) (r : Refusal) → At l p both_heard → SizePromise l p (count.Refused r) → ⊥
-refuses_size l p r at h = not_refused_count (size_first l p _ at h)
-
-pub refuses_check : (l : Link) (p : Parts) (r : Refusal) → At l p rested → CheckPromise 6 l p (time.Refused r) → ⊥
-refuses_check l p r at h = let e = check_later l p _ at h in let z : ◌≡◌ {A = ℕ} 0 1 = cc in omega arith

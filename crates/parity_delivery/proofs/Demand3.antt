@@ -25,7 +25,7 @@ use Rattle.delivery.specs.Hearing.{FewPushes, FedWith, HearsMore}
 use Rattle.demands.specs.Steps.{Endpoint, SinceOpening}
 use Rattle.delivery.specs.Claims.{Delivered}
 use Rattle.demands.specs.Claims.{observed}
-use Rattle.demands.specs.Demand3.{demand_3}
+use Rattle.demands.proofs.Demand3.{demand_3}
 use Rattle.frames.specs.declared.Refusal.{Refusal}
 use Rattle.frames.specs.declared.Refusal.TheVariants.{ShortPart, SettingOutOfRange, NotAGroup, TooFewFrames}
 use Rattle.frames.specs.Lists.{listed, joined, parts, add_up, lengths_of, every, different}

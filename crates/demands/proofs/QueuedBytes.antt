@@ -10,7 +10,7 @@ use Rattle.delivery.specs.QueuedBytes as station
 use Rattle.demands.specs.Steps.{Endpoint, SinceOpening}
 use Rattle.demands.specs.Stations.{station_of}
 use Rattle.demands.specs.Claims.{QueuedBytes}
-use Rattle.demands.specs.RunLaws.{opens_station, taken, since_opening}
+use Rattle.demands.proofs.RunLaws.{opens_station, taken, since_opening}
 
 pub queued_bytes_lem : (c : Settings) (calls : List Call) (events : List Event) (e : Endpoint) → SinceOpening c calls events e →
     QueuedBytes c events e

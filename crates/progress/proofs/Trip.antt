@@ -44,7 +44,7 @@ use Rattle.delivery.specs.SenderModel.{taken_same}
 use Rattle.delivery.specs.SendingStays.{half_in}
 use Rattle.delivery.specs.ReceivingLaws.{receiver_of, receiver_flushed, receiver_after, own_receiver}
 use Rattle.delivery.specs.AlwaysValid.{InOrder}
-use Rattle.delivery.specs.FedLaws.{or-true}
+use Rattle.delivery.proofs.FedLaws.{or-true}
 use Rattle.progress.specs.SmallNumbers.{after_small}
 use Rattle.progress.specs.Had.{has, waiting_numbers, known_next, Pushes, TookAll, took_all_none, took_all_then, all_had, goes_in}
 use Rattle.progress.specs.Outstanding.{numbers_of, all_preserved, floor_all, skips_numbers, una_least, una_is}

@@ -19,8 +19,8 @@ use Rattle.delivery.specs.Hearing.{CallFits, FewPushes}
 use Rattle.delivery.specs.PlainReceiver.{pushes_in}
 use Rattle.demands.specs.Steps.{Endpoint, Called, Runs, start, next}
 use Rattle.demands.specs.Stations.{station_of}
-use Rattle.demands.specs.Simulation.{Preserved, own_call, preserved_call}
-use Rattle.demands.specs.RunLaws.{opens_station, opens_preserved, taken, since_opening}
+use Rattle.demands.proofs.Simulation.{Preserved, own_call, preserved_call}
+use Rattle.demands.proofs.RunLaws.{opens_station, opens_preserved, taken, since_opening}
 use Rattle.progress.specs.TwoEnds.{
   Move,
   at_a,
@@ -38,7 +38,7 @@ use Rattle.progress.specs.TwoEnds.{
   Passed,
 }
 use Rattle.progress.specs.Joint.{Joint, exchanged, joint_step, joint_opened}
-use Rattle.progress.specs.Trip.{fed, Nine, nine_given, nine_stays, passed}
+use Rattle.progress.proofs.Trip.{fed, Nine, nine_given, nine_stays, passed}
 
 -- ---- lists of calls, the first and the others
 

@@ -51,7 +51,7 @@ use Rattle.delivery.specs.SearchLaws.{
   lowest_stops,
   lowest_skips,
 }
-use Rattle.delivery.specs.PlainLaws.{all_heard_each, each_all_heard, not_all_heard, take_one_more, ComesOut, answer_message}
+use Rattle.delivery.proofs.PlainLaws.{all_heard_each, each_all_heard, not_all_heard, take_one_more, ComesOut, answer_message}
 use Rattle.delivery.specs.ListLaws.{none≢some, entry_inside, drop_entry, entry_of_drop, drop_take}
 use Rattle.delivery.specs.PieceLaws.{length_falling, joined_cut, none_behind, message_behind, segments_one_more}
 use Rattle.delivery.specs.SendPool.{length_cut, count_least}

@@ -22,7 +22,8 @@ use Rattle.delivery.specs.Claims.{Delivered}
 use Rattle.delivery.specs.Stations.{Opened, observed}
 use Rattle.delivery.specs.QueuedBytes.{accepted_genuine}
 use Rattle.delivery.specs.AlwaysValid.{station_always_valid}
-use Rattle.delivery.specs.Receiving.{FedReceiver, fed_genuine, delivered_by_receivers}
+use Rattle.delivery.specs.Receiving.{FedReceiver, fed_genuine}
+use Rattle.delivery.proofs.Receiving.{delivered_by_receivers}
 
 pub station_demand_3 : (c : Settings) → Taken c
     → (sender first second : Station) → Opened c sender → Opened c first → Opened c second

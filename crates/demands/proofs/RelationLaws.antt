@@ -43,7 +43,7 @@ use Rattle.promises.specs.Outcomes.{checked, takes_in_with, reads_with, tells_wi
 use Rattle.promises.specs.Answers.{Counts, count_outcome}
 use Rattle.promises.specs.Promises.{TookIn, InputPromise, InputLeaves, ReadPromise, SizePromise}
 use Rattle.demands.specs.Relations.{read_as, entries_of, acks_after}
-use Rattle.demands.specs.CountLaws.{is_valid, short, low}
+use Rattle.demands.proofs.CountLaws.{is_valid, short, low}
 
 -- ---- parts that are long enough
 

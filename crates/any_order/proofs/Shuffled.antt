@@ -18,7 +18,8 @@ use Rattle.congestion.specs.Congestions.{used_window}
 use Rattle.session.specs.Flushing.{numbered, numbered_count, with_numbered, flushing}
 use Rattle.session.specs.Input.{acknowledged, sampled_by, heard_by_sending, all_by_sending, ack_numbers, furthest, skipped, applied}
 use Rattle.any_order.specs.Numbers.{numbers_in, applied_all, seen_by, unskipped}
-use Rattle.any_order.specs.NumberLaws.{same_of_all, same_in_any_order}
+use Rattle.any_order.specs.NumberLaws.{same_of_all}
+use Rattle.any_order.proofs.NumberLaws.{same_in_any_order}
 
 -- ---- the link
 

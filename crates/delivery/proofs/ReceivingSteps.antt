@@ -41,10 +41,10 @@ use Rattle.delivery.specs.Hearing.{CallFits}
 use Rattle.delivery.specs.Claims.{Seen, found, other, seen_refusal, seen}
 use Rattle.delivery.specs.Stations.{Opened}
 use Rattle.delivery.specs.Pieces.{pieces_of, Genuine, pushes, GenuineDatagram}
-use Rattle.delivery.specs.PlainLaws.{messages_found}
+use Rattle.delivery.proofs.PlainLaws.{messages_found}
 use Rattle.delivery.specs.ParsedLaws.{SegmentFits, parse_fits}
 use Rattle.delivery.specs.ReceiverModel.{Listed, list_pushes, list_answer, list_leave}
-use Rattle.delivery.specs.Refinement.{listed_as, Fed, AllArrive, feed_as, answer_as, fed_leave, leave_as, fed_first, listed_first}
+use Rattle.delivery.proofs.Refinement.{listed_as, Fed, AllArrive, feed_as, answer_as, fed_leave, leave_as, fed_first, listed_first}
 use Rattle.delivery.specs.ReceivePool.{
   waiting_held,
   received,

@@ -15,7 +15,8 @@ use Rattle.control.specs.declared.Link.{Link}
 use Rattle.promises.specs.Parts.{Parts}
 use Rattle.any_order.specs.Removing.{unless_ahead, passes_all, SameMembers}
 use Rattle.any_order.specs.Numbers.{unskipped, untimed}
-use Rattle.any_order.specs.NumberLaws.{same_of_all, Sees, sees_unskipped, sees_untimed}
+use Rattle.any_order.specs.NumberLaws.{same_of_all, Sees, sees_unskipped}
+use Rattle.any_order.proofs.NumberLaws.{sees_untimed}
 use Rattle.any_order.specs.Hearing.{Heard, numbers_one, numbers_heard, NoCall, NextFixed, Hears}
 use Rattle.any_order.specs.Hearing.{SameInFlight, outstanding_in, outstanding_numbers}
 use Rattle.any_order.specs.OtherCallLaws.{next_fixed_leaves}

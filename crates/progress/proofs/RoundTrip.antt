@@ -16,7 +16,7 @@ use Rattle.std.specs.Prelude.{List}
 use Rattle.protocol.specs.declared.Settings.{Settings}
 use Rattle.session.specs.Calls.{datagrams_by}
 use Rattle.demands.specs.Steps.{Endpoint}
-use Rattle.demands.specs.RunLaws.{taken}
+use Rattle.demands.proofs.RunLaws.{taken}
 use Rattle.progress.specs.TwoEnds.{
   Move,
   events_of_a,
@@ -29,7 +29,7 @@ use Rattle.progress.specs.TwoEnds.{
   Passed,
 }
 use Rattle.progress.specs.Counting.{few_both, writes_few, fed_made, since_made}
-use Rattle.progress.specs.Moves.{passed_by_pushes}
+use Rattle.progress.proofs.Moves.{passed_by_pushes}
 
 pub one_good_round_trip : (c : Settings) (moves : List Move) (a b a'' : Endpoint)
     → (of_a : MadeBy c (events_of_a moves) a) → (of_b : MadeBy c (events_of_b moves) b)

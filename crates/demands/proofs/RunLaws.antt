@@ -23,7 +23,7 @@ use Rattle.delivery.specs.Stations.{Opened}
 use Rattle.delivery.specs.AlwaysValid.{opened_all}
 use Rattle.demands.specs.Steps.{Endpoint, Runs, start, next, Opens, SinceOpening}
 use Rattle.demands.specs.Stations.{station_of}
-use Rattle.demands.specs.Simulation.{Preserved, long_flush, preserved_call, step_call}
+use Rattle.demands.proofs.Simulation.{Preserved, long_flush, preserved_call, step_call}
 
 -- ---- opening
 

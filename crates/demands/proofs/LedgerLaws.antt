@@ -14,12 +14,12 @@ use Rattle.delivery.specs.Hearing.{CallFits}
 use Rattle.delivery.specs.AlwaysValid.{station_always_valid}
 use Rattle.delivery.specs.Ledger as station
 use Rattle.delivery.specs.Ledger.{used_slots, Ledger}
-use Rattle.delivery.specs.LedgerLaws as station-laws
+use Rattle.delivery.proofs.LedgerLaws as station-laws
 use Rattle.demands.specs.Steps.{Endpoint, Runs, start, next, SinceOpening}
 use Rattle.demands.specs.Stations.{station_of}
 use Rattle.demands.specs.Claims.{segments_acknowledged, fragments_accepted}
-use Rattle.demands.specs.Simulation.{Preserved, preserved_call, step_call}
-use Rattle.demands.specs.RunLaws.{opens_station, opens_preserved, taken, since_opening}
+use Rattle.demands.proofs.Simulation.{Preserved, preserved_call, step_call}
+use Rattle.demands.proofs.RunLaws.{opens_station, opens_preserved, taken, since_opening}
 
 -- what the calls acknowledge is what the station's do
 acknowledged_same : (c : Settings) → in_range c ≡ true → c.conv < 2 ^ 32

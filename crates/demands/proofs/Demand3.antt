@@ -22,12 +22,12 @@ use Rattle.delivery.specs.Accepted.{accepted_for}
 use Rattle.delivery.specs.Hearing.{FewPushes, FedWith, HearsMore}
 use Rattle.delivery.specs.Claims.{Receives, Delivered}
 use Rattle.delivery.specs.Stations as stations
-use Rattle.delivery.specs.Demand3 as delivery
+use Rattle.delivery.proofs.Demand3 as delivery
 use Rattle.demands.specs.Steps.{Endpoint, SinceOpening}
 use Rattle.demands.specs.Stations.{station_of}
 use Rattle.demands.specs.Claims.{observed}
-use Rattle.demands.specs.Simulation.{step_call}
-use Rattle.demands.specs.RunLaws.{opens_station, taken, since_opening}
+use Rattle.demands.proofs.Simulation.{step_call}
+use Rattle.demands.proofs.RunLaws.{opens_station, taken, since_opening}
 
 -- what holds of a receiver's station holds of the receiver
 receives : {c : Settings} {calls : List Call} {events : List Event} {e : Endpoint} (accepted : List (List ℕ))

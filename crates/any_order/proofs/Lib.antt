@@ -1,0 +1,3 @@
+pub mod AnyOrder
+pub mod Shuffled
+pub mod NumberLaws

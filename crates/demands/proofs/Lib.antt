@@ -1,0 +1,11 @@
+pub mod LedgerLaws
+pub mod RelationLaws
+pub mod RefusalLaws
+pub mod RunLaws
+pub mod Demand3
+pub mod QueuedBytes
+pub mod UpdateLaws
+pub mod Simulation
+pub mod AlwaysValid
+pub mod QuietLaws
+pub mod CountLaws
