@@ -1,5 +1,6 @@
 // Parity for C: groups written and read. A number below zero is a refusal's.
 #![tactic(auto)]
+
 ghost use Rattle.std.specs.Prelude.{◌≡◌, length};
 ghost use Rattle.frames.specs.Outcomes.{write_of};
 ghost use Rattle.frames.specs.Reading.{read_of};
