@@ -1,5 +1,6 @@
 // Tags for C: tag messages and tables of tags. A number below zero is a refusal's.
 #![tactic(auto)]
+
 ghost use Rattle.std.specs.Prelude.{◌≡◌};
 ghost use Rattle.codes.specs.Codes.{number_code};
 ghost use Rattle.tag_message.specs.Tags.{number_of};
