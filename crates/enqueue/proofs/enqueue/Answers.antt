@@ -12,21 +12,21 @@ pub overflow_add-full-2 : goal.overflow_add-full-2
 overflow_add-full-2 c =
     let s = c in
     let rest = length s.args.message.now - c.least-first.result in
-    omega (arith, c.segment_count-count.ensures, count_most s.args.stream s.args.mss rest s.requires.some, s.requires.held-most, s.well_formed)
+    omega (arith, c.segment_count-count.ensures, count_most s.args.stream s.args.mss rest s.requires.some, s.requires.held_most_lem, s.well_formed)
 
 pub returns-then-long : goal.returns-then-long
 returns-then-long c t p = follows_long p _ _ c.last_room-room.ensures c.least-first.ensures
-    (ltb-true _ _ c.if-long.true)
+    c.if-long.true
 
 -- past the test of 10
 short : (c : goal.Then-full) → length c.args.message.now - c.least-first.result ≤ 127 * c.args.mss
-short c = ltb-false _ _ c.if-long.false
+short c = c.if-long.false
 
 pub returns-then-full : goal.returns-then-full
 returns-then-full c t p =
     follows_full p _ _ c.last_room-room.ensures c.least-first.ensures
     c.segment_count-count.ensures (short c)
-    c.requires.held-most (ltb-true _ _ c.if-full.true)
+    c.requires.held_most_lem c.if-full.true
 
 pub fill-requires : goal.fill-requires
 fill-requires c =
@@ -46,7 +46,7 @@ fill-requires c =
 pub returns : goal.returns
 returns c t p =
     follows_placed p _ _ c.last_room-room.ensures c.least-first.ensures c.segment_count-count.ensures
-    (let short' : length c.args.message.now - c.least-first.result ≤ 127 * c.args.mss = ltb-false _ _ c.if-long.false in short')
+    (let short' : length c.args.message.now - c.least-first.result ≤ 127 * c.args.mss = c.if-long.false in short')
     (let room' : c.args.m
-    + c.args.n + c.segment_count-count.result ≤ 128 = ltb-false _ _ c.if-full.false in room') _ _ _ _ _
+    + c.args.n + c.segment_count-count.result ≤ 128 = c.if-full.false in room') _ _ _ _ _
     c.fill.ensures c.place-after.ensures
