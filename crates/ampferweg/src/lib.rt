@@ -1,6 +1,6 @@
 // What C calls: each function takes the block behind a pointer, and answers with a number, 0 or more where the call is done
 // and the refusal's number below zero where it is not; an update that is done and does not flush has a number of its own. Each gives what it
-// is given to a function of a crate below; of the table of records the first 128 are read and written. Proved by walks.
+// is given to a function of a crate below; of the table of records the first 128 are read and written.
 #![tactic(auto)]
 pub mod settings;
 
