@@ -1,6 +1,7 @@
 // The calls of a link for a program that keeps block and table by value: the block's lists are locals that are lent to the core,
 // and of the table the first `lent` records, or all where it has fewer.
 #![tactic(auto)]
+
 ghost use Rattle.std.specs.Prelude.{◌≡◌, length, take, drop};
 ghost use Rattle.checking.specs.Verdicts.{Sound};
 ghost use Rattle.promises.specs.Promises.{ShowsPart};
