@@ -654,7 +654,7 @@ pub fn show<'a>(
     acks: &[u32],
 ) -> &'a [u8]
     ensures { ShowsPart (shows link (parts_of send_pool.now receive_pool.now (take lent table)
-        acks.now)) receive_pool.entry.ptr receive_pool.now result.ref_ptr result.now }
+        acks.now)) receive_pool.entry.ref_ptr receive_pool.now result.ref_ptr result.now }
 {
     let settings = link.settings;
     let flight = link.flight;
