@@ -2,6 +2,7 @@
 // and the refusal's number below zero where it is not; an update that is done and does not flush has a number of its own. Each gives what it
 // is given to a function of a crate below; of the table of records the first 128 are read and written.
 #![tactic(auto)]
+
 pub mod settings;
 
 ghost use Rattle.promises.specs.Parts.{parts_of, flush_parts_of};

@@ -1,6 +1,6 @@
 -- Laws of `Views`.
 -- Assumes nothing.
-use Rattle.std.specs.Prelude.{◌≡◌, refl, true, List, [], ◌∷◌, ℕ, zero, suc, ◌≤◌, length}
+use Rattle.std.specs.Prelude.{◌≡◌, true, List, [], ◌∷◌, ℕ, zero, suc, ◌≤◌, length}
 use Rattle.std.proofs.Common.{zero-le, arith, leb-true}
 use Rattle.session.specs.Decides.{and_parts}
 use Rattle.control.specs.declared.Flight.{Flight}

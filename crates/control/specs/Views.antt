@@ -1,6 +1,6 @@
 -- The state that a control block stands for, with the records of its outstanding segments and the lent ack list. Definitions.
 -- Assumes nothing.
-use Rattle.std.specs.Prelude.{◌≡◌, Bool, not, ◌&&◌, List, [], ◌∷◌, map, ℕ, zero, suc, leb, eqb, length}
+use Rattle.std.specs.Prelude.{◌≡◌, Bool, not, ◌&&◌, List, [], ◌∷◌, ℕ, zero, suc, leb, eqb, length}
 use Rattle.protocol.specs.Protocol.{acks_most}
 use Rattle.protocol.specs.declared.Settings.{Settings}
 use Rattle.timing.specs.declared.Record.{Record}

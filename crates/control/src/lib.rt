@@ -3,6 +3,7 @@
 // A held segment is one word (`words`); the numbers of waiting segments and the transmissions of outstanding ones stand in
 // arrays beside their words. The number, due time, timeout and skips of an outstanding segment are its record in the lent table.
 #![tactic(auto)]
+
 use congestion::Congestion;
 use protocol::Settings;
 use timing::{ProbeClock, RoundTrip};

@@ -9,7 +9,7 @@ use Rattle.wire.specs.declared.Header.{Header}
 use Rattle.protocol.specs.declared.Refusal.{Refusal}
 use Rattle.datagram.specs.declared.Checked.TheVariants.{Accepted, Refused}
 use Rattle.datagram.specs.Datagrams.{Segment, Parsed, refused, segments, walk, parse, counted}
-use Rattle.datagram.specs.WalkLaws.{Passed, passed, parse_long, parse_short}
+use Rattle.datagram.specs.WalkLaws.{Passed, parse_long, parse_short}
 
 -- the segments gs remain at index i of s
 pub record Remaining (conv mss : ℕ) (s : List ℕ) (i : ℕ) (gs : List Segment) : Type 0 where

@@ -12,7 +12,7 @@
 -- been fed while below the next expected number plus 128.
 -- In stream mode each segment as finally numbered is taken for a message, and these in order are the accepted list (`accepted_for`).
 -- Assumes nothing.
-use Rattle.std.specs.Prelude.{List, ℕ}
+use Rattle.std.specs.Prelude.{List}
 use Rattle.protocol.specs.declared.Settings.{Settings}
 use Rattle.session.specs.Calls.{Station, Call, history, datagrams_by}
 use Rattle.session.specs.Decides.{All}
@@ -22,7 +22,7 @@ use Rattle.delivery.specs.Claims.{Delivered}
 use Rattle.delivery.specs.Stations.{Opened, observed}
 use Rattle.delivery.specs.QueuedBytes.{accepted_genuine}
 use Rattle.delivery.specs.AlwaysValid.{station_always_valid}
-use Rattle.delivery.specs.Receiving.{FedReceiver, fed_genuine}
+use Rattle.delivery.specs.Receiving.{fed_genuine}
 use Rattle.delivery.proofs.Receiving.{delivered_by_receivers}
 
 pub station_demand_3 : (c : Settings) → Taken c

@@ -1,13 +1,12 @@
 -- The ledger of document 01 holds over any calls since opening, whatever bytes are taken in.
 -- Assumes nothing.
-use Rattle.std.specs.Prelude.{◌≡◌, refl, Bool, cond, ◌||◌, ◌&&◌, eqb}
-use Rattle.std.proofs.Common.{sym, ◌∙◌, subst, true≢false, eqb-true, ne_eqb, length-append}
+use Rattle.std.specs.Prelude.{◌≡◌, refl, Bool, cond, ◌&&◌}
+use Rattle.std.proofs.Common.{◌∙◌, subst, true≢false, length-append}
 use Rattle.std.proofs.Math.Path.{ap}
 use Rattle.std.proofs.Math.Bool.{true, false, not}
 use mathlib.Core.List.{List, [], ◌∷◌, ◌++◌, map}
-use Prim.Native.Nat.{ℕ, zero, suc, ◌+◌, ◌≤◌, ◌<◌}
+use Prim.Native.Nat.{ℕ, suc, ◌+◌, ◌<◌}
 use native.Mathlib.Omega.{arith}
-use Rattle.std.proofs.lemmas.Bool.{eqb-false}
 use Rattle.std.proofs.Math.ListN.{length}
 use Rattle.std.proofs.lemmas.List.{length-map}
 use Rattle.protocol.specs.Protocol.{send_slots}
@@ -20,7 +19,7 @@ use Rattle.lists.specs.declared.Held.{Held}
 use Rattle.lists.specs.declared.Sent.{Sent}
 use Rattle.lists.specs.Acknowledging.{select, skip_before}
 use Rattle.session.specs.UsedSlots.{used_all}
-use Rattle.session.specs.State.{State, Sending, send_held, slots, with_window, with_queue, with_outstanding}
+use Rattle.session.specs.State.{State, Sending, send_held, slots, with_queue, with_outstanding}
 use Rattle.session.specs.Opening.{opened}
 use Rattle.session.specs.Cutting.{fragment_count, segment_count}
 use Rattle.session.specs.Sending.{filled}

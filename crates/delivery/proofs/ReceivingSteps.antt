@@ -28,7 +28,6 @@ use Rattle.protocol.specs.declared.Refusal.TheVariants.{
 use Rattle.datagram.specs.Datagrams.{Segment, Parsed}
 use Rattle.timing.specs.Choices.{either_way}
 use Rattle.schedule.specs.Schedules.{updated}
-use Rattle.schedule.specs.declared.Updated.{Updated}
 use Rattle.session.specs.State.{State}
 use Rattle.session.specs.Opening.{opened}
 use Rattle.session.specs.Reading.{front_count, readable, joined_in, message_size, message, reading}

@@ -1,7 +1,7 @@
 -- Validity: after an accepted opening, with lent parts of the stated sizes, no list of calls ever gives 13, nor 7 for a lent part.
 -- Assumes nothing.
-use Rattle.std.specs.Prelude.{◌≡◌, refl, Bool, true, ◌&&◌, ℕ, ◌^◌, ◌≤◌, ◌<◌}
-use Rattle.std.proofs.Common.{sym, ap, ◌∙◌, subst, arith}
+use Rattle.std.specs.Prelude.{◌≡◌, true, ℕ, ◌^◌, ◌≤◌, ◌<◌}
+use Rattle.std.proofs.Common.{subst, arith}
 use mathlib.Core.List.{List, [], ◌∷◌}
 use Rattle.protocol.specs.Protocol.{send_window}
 use Rattle.protocol.specs.Ranges.{in_range, mss}
@@ -14,10 +14,9 @@ use Rattle.session.specs.State.{State}
 use Rattle.session.specs.Opening.{opened}
 use Rattle.session.specs.Input.{applied}
 use Rattle.session.specs.Flushing.{window_of, flushing}
-use Rattle.sizes.specs.Sizes.{enough, enough_to_flush}
-use Rattle.sizes.specs.declared.Lengths.{Lengths}
+use Rattle.sizes.specs.Sizes.{enough_to_flush}
 use Rattle.session.specs.Valid.{valid, sending_valid, receiving_valid, probe_fits}
-use Rattle.session.specs.Calls.{Station, Call, Stepped, Lent, own, lengths_of, long_enough, after, step}
+use Rattle.session.specs.Calls.{Station, Call, Stepped, own, lengths_of, long_enough, after}
 use Rattle.session.specs.Decides.{All}
 use Rattle.session.specs.RuleLaws.{losses_at}
 use Rattle.session.specs.SendingValid.{congestion_decides}

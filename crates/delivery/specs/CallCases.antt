@@ -9,7 +9,6 @@ use Rattle.protocol.specs.declared.Refusal.TheVariants.{ShortPart, NoMessage, Lo
 use Rattle.datagram.specs.Datagrams.{Segment, Parsed, parse}
 use Rattle.schedule.specs.Schedules.{updated}
 use Rattle.schedule.specs.declared.Schedule.{Schedule}
-use Rattle.schedule.specs.declared.Updated.{Updated}
 use Rattle.session.specs.State.{State, Sending, Outcome, send_held, slots, with_queued, with_receiving, with_times, with_schedule}
 use Rattle.session.specs.Valid.{valid}
 use Rattle.session.specs.Cutting.{segment_count, cut_as}

@@ -7,9 +7,8 @@ use mathlib.Core.List.{List, [], ◌∷◌, ◌++◌, map, flatten, append_assoc
 use Rattle.protocol.specs.Protocol.{send_slots}
 use Rattle.protocol.specs.Ranges.{mss, is_stream}
 use Rattle.protocol.specs.declared.Settings.{Settings}
-use Rattle.lists.specs.declared.Held.{Held}
 use Rattle.session.specs.State.{Sending}
-use Rattle.session.specs.Cutting.{segment_count, pieces, cut, cut_as}
+use Rattle.session.specs.Cutting.{segment_count, cut, cut_as}
 use Rattle.session.specs.Sending.{Placed, Filled, filled}
 use Rattle.session.specs.FillLaws.{fill_off}
 use Rattle.session.specs.Decides.{All}

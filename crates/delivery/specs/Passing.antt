@@ -1,6 +1,6 @@
 -- Calls that pass the checks of 7 and 13: each is then the call itself.
 -- Assumes nothing.
-use Rattle.std.specs.Prelude.{◌≡◌, refl, true, List, [], ◌∷◌}
+use Rattle.std.specs.Prelude.{◌≡◌, true, List, [], ◌∷◌}
 use Rattle.session.specs.Valid.{valid}
 use Rattle.session.specs.Calls.{Station, Call, own, long_enough, step}
 

@@ -12,7 +12,6 @@ use Rattle.lists.specs.declared.Waiting.{Waiting}
 use Rattle.lists.specs.Orders.{ascending, waiting_offset}
 use Rattle.timing.specs.Choices.{either_way}
 use Rattle.schedule.specs.Schedules.{updated}
-use Rattle.schedule.specs.declared.Updated.{Updated}
 use Rattle.schedule.specs.declared.Schedule.{Schedule}
 use Rattle.session.specs.State.{State, Receiving, Outcome, receive_held, slots, with_notes}
 use Rattle.sizes.specs.Sizes.{enough, enough_to_flush}

@@ -17,7 +17,6 @@ use Rattle.session.specs.Valid.{probe_fits, sending_valid}
 use Rattle.session.specs.Decides.{All}
 use Rattle.session.specs.SendingValid.{sending_decides, probe_decides}
 use Rattle.session.specs.Opening.{opened}
-use Rattle.session.specs.Sending.{sending}
 use Rattle.session.specs.FillLaws.{filled_length}
 use Rattle.session.specs.Input.{applied, all_by_sending, ack_numbers}
 use Rattle.session.specs.Flushing.{window_of, numbered_count, flushing}

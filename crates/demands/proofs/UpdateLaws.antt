@@ -1,22 +1,12 @@
 -- An update is a flush, or a new current time alone: from its promise, of every block and all lent parts.
 -- Assumes nothing.
 use Rattle.std.specs.Prelude.{◌≡◌, refl, Bool, true, false, cond, List, ◌⊎◌, ℕ, ◌^◌, ◌<◌, length}
-use Rattle.std.proofs.Common.{sym, ap, ◌∙◌, subst, true≢false, inl, inr, arith}
+use Rattle.std.proofs.Common.{sym, ap, ◌∙◌, true≢false, inl, inr, arith}
 use Rattle.protocol.specs.Ranges.{mss}
 use Rattle.protocol.specs.Serial.{is_due}
 use Rattle.sizes.specs.Sizes.{enough_to_flush}
 use Rattle.schedule.specs.Schedules.{is_astray, corrected, started, updated}
-use Rattle.schedule.specs.ScheduleLaws.{
-  either,
-  due_by,
-  corrected_astray,
-  corrected_unchanged,
-  started_made,
-  started_first,
-  near,
-  when_reached,
-  when_waiting,
-}
+use Rattle.schedule.specs.ScheduleLaws.{either, due_by, corrected_astray, corrected_unchanged, started_made, started_first, when_reached, when_waiting}
 use Rattle.schedule.specs.declared.Schedule.{Schedule}
 use Rattle.schedule.specs.declared.Updated.{Updated}
 use Rattle.session.specs.State.{State, Outcome, with_times, with_schedule}
@@ -25,12 +15,11 @@ use Rattle.session.specs.Updating as session
 use Rattle.session.specs.Updating.{updating}
 use Rattle.control.specs.declared.Link.{Link}
 use Rattle.answers.specs.declared.Update.{Update}
-use Rattle.answers.specs.declared.Update.TheVariants as update
 use Rattle.promises.specs.Parts.{Parts, FlushParts, lengths_of, state_in, is_made}
 use Rattle.promises.specs.Outcomes.{checked, updates_with}
 use Rattle.promises.specs.Answers.{update_answer}
 use Rattle.promises.specs.Promises.{UpdateLeaves, UpdatePromise}
-use Rattle.demands.specs.Relations.{AsFlush, CurrentAlone, Treated}
+use Rattle.demands.specs.Relations.{Treated}
 
 -- ---- of a schedule: one that does not flush stays as it is
 

@@ -11,7 +11,6 @@ use Rattle.protocol.specs.declared.Settings.{Settings}
 use Rattle.session.specs.State.{Outcome, refused, done}
 use Rattle.session.specs.Reading.{Part}
 use Rattle.session.specs.Updating.{Updates}
-use Rattle.promises.specs.Outcomes.{flushes}
 
 -- P holds of the result, if there is one
 abbrev pub OfResult : {A : Type 0} → (A → Type 0) → Outcome A → Type 0

@@ -4,11 +4,8 @@
 -- Assumes nothing.
 use Rattle.std.specs.Prelude.{◌^◌, ◌<◌}
 use Rattle.lists.specs.declared.Sent.{Sent}
-use Rattle.schedule.specs.ScheduleLaws as schedule
 use Rattle.session.specs.State.{State}
-use Rattle.session.specs.Updating.{dues}
 use Rattle.session.specs.Decides.{All}
-use Rattle.demands.specs.Quiet.{next}
 
 -- the next flush time and the due times have 32 bits
 pub record Fits (s : State) : Type 0 where

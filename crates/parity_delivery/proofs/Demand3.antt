@@ -34,19 +34,7 @@ use Rattle.frames.specs.Outcomes.{Outcome, refused, wrote, settings_ok, lent_ok,
 use Rattle.frames.specs.Reading.{sequence_of, frame_ok, first_group, held_shard, found, holds, read_group, read_frames, read_of}
 use Rattle.frames.specs.PlaceLaws.{length_listed, listed_get_d}
 use Rattle.frames.specs.OutcomeLaws.{and_left, and_right}
-use Rattle.recovery.specs.RoundTrip.{
-  Given,
-  none,
-  more,
-  Accepted,
-  accepted,
-  Writable,
-  frame_most,
-  count_is,
-  written,
-  round_trip,
-  wrote_group,
-}
+use Rattle.recovery.specs.RoundTrip.{Given, none, more, Accepted, accepted, frame_most, count_is, written, round_trip, wrote_group}
 use Rattle.parity_delivery.specs.Recovered.{Recovered, FedThrough}
 use Rattle.parity_delivery.specs.PackedLaws.{joined_most, saw, seen_parts}
 

@@ -1,12 +1,10 @@
 -- What was written one behind the other is seen again: bytes cut by their lengths.
 -- Assumes nothing.
 use Rattle.std.specs.Prelude.{◌≡◌, refl, List, [], ◌∷◌, ◌++◌, ℕ, zero, suc, ◌+◌, ◌*◌, ◌≤◌, ◌<◌, length, take, drop}
-use Rattle.std.proofs.Common.{sym, ap, ap₂, ◌∙◌, subst, append_assoc, zero-add, add-mul, add-one, arith, take_at}
+use Rattle.std.proofs.Common.{ap, ap₂, ◌∙◌, subst, append_assoc, zero-add, add-mul, add-one, arith, take_at}
 use Rattle.std.proofs.lemmas.List.Edits.{sets, sets-eq}
 use Rattle.std.proofs.Math.Seq.{take-append_seam, drop-append_seam}
-use Rattle.frames.specs.declared.Answer.{Answer}
-use Rattle.frames.specs.declared.Answer.TheVariants.{Written, Refused}
-use Rattle.frames.specs.declared.Refusal.{Refusal}
+use Rattle.frames.specs.declared.Answer.TheVariants.{Written}
 use Rattle.frames.specs.Lists.{listed, joined, lengths_of, parts}
 use Rattle.frames.specs.Outcomes.{Outcome, refused, wrote, answer_of, bytes_after, lengths_after, Gives}
 use Rattle.frames.specs.PartLaws.{length_lengths, length_joined_next}

@@ -1,11 +1,10 @@
 -- The answers of the calls, by the outcomes of their definitions.
 -- Assumes nothing.
-use Rattle.std.specs.Prelude.{◌≡◌, cond, List, ℕ, suc, length, take}
+use Rattle.std.specs.Prelude.{◌≡◌, cond, List, ℕ, length, take}
 use Rattle.protocol.specs.Refusals.{number_of}
 use Rattle.protocol.specs.declared.Refusal.TheVariants.{NoMessage}
 use Rattle.lists.specs.declared.Held.{Held}
 use Rattle.session.specs.State.{Outcome, refused, done}
-use Rattle.session.specs.Flushing.{Flushed}
 use Rattle.session.specs.Reading.{readable, front_count, length_of}
 use Rattle.session.specs.Updating.{Updates, waits, flushes}
 use Rattle.answers.specs.declared.Answer.{Answer}

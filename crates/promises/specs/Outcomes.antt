@@ -1,6 +1,6 @@
 -- What each call gives: its refusal, or its result. Every call but opening checks the lent sizes (7), then the block (13), then its own.
 -- Assumes nothing.
-use Rattle.std.specs.Prelude.{Bool, cond, List, ℕ, length}
+use Rattle.std.specs.Prelude.{Bool, List, ℕ, length}
 use Rattle.protocol.specs.Ranges.{mss}
 use Rattle.protocol.specs.declared.Settings.{Settings}
 use Rattle.sizes.specs.Sizes.{enough, enough_to_flush}

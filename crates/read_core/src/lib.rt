@@ -1,6 +1,7 @@
 // Reading a message, telling its size, and showing its first segment: the block's numbers by value, its lists and the other parts lent.
 // Each is given whether the block is sound and whether the records of its outstanding segments fit, and checks 7, then 13, then its own.
 #![tactic(auto)]
+
 ghost use Rattle.std.specs.Prelude.{◌≡◌, ◌+◌, ◌*◌, ◌≤◌, ◌<◌, ◌^◌, length, take, drop};
 ghost use Rattle.protocol.specs.Protocol.{receive_slots};
 ghost use Rattle.words.specs.Words.{held_in};

@@ -1,5 +1,6 @@
 // Plays a script of link calls on standard input, and writes the answers.
 #![tactic(auto)]
+
 ghost use Rattle.std.specs.Prelude.{◌≡◌, ◌+◌, ◌≤◌, IfOk, length, drop};
 ghost use Rattle.script.specs.Commands.{first_line};
 

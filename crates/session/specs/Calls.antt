@@ -3,7 +3,6 @@
 use Rattle.std.specs.Prelude.{Bool, List, [], ◌∷◌, ◌++◌, map, ℕ, length}
 use Rattle.protocol.specs.Ranges.{mss}
 use Rattle.protocol.specs.declared.Refusal.{Refusal}
-use Rattle.datagram.specs.Datagrams.{Segment}
 use Rattle.session.specs.State.{State, Outcome, admitted}
 use Rattle.sizes.specs.Sizes.{enough, enough_to_flush}
 use Rattle.sizes.specs.declared.Lengths.{Lengths}

@@ -19,7 +19,6 @@ use Rattle.congestion.specs.Congestions.{
   at_least_one,
   after_flush,
 }
-use Rattle.congestion.specs.declared.Congestion.{Congestion}
 use Rattle.retransmission.specs.Transmissions.{first_due, growth, longer_timeout, is_skipped, transmission}
 use Rattle.lists.specs.declared.Held.{Held}
 use Rattle.lists.specs.Acknowledging.{select, first_number_or, skip_before}

@@ -1,12 +1,11 @@
 -- A flush at a given time: what is written, and the state after it.
 -- Assumes nothing.
-use Rattle.std.specs.Prelude.{Bool, true, false, cond, ◌||◌, ◌&&◌, ℕ, suc, ◌+◌, ◌-◌, ◌*◌, min, leb, eqb, length, take, drop}
+use Rattle.std.specs.Prelude.{Bool, false, cond, ◌||◌, ℕ, ◌+◌, ◌-◌, ◌*◌, min, leb, eqb, length, take, drop}
 use mathlib.Core.List.{List, [], ◌∷◌, ◌++◌, map, foldl}
-use Rattle.protocol.specs.Protocol.{push, ack, window_ask, window_tell, header_size, receive_window, dead_after}
+use Rattle.protocol.specs.Protocol.{push, ack, window_ask, window_tell, receive_window, dead_after}
 use Rattle.protocol.specs.Ranges.{mss, controls_congestion}
 use Rattle.protocol.specs.Serial.{plus, minus}
 use Rattle.wire.specs.Headers.{encode}
-use Rattle.wire.specs.declared.Header.{Header}
 use Rattle.protocol.specs.declared.Settings.{Settings}
 use Rattle.datagram.specs.Datagrams.{Segment}
 use Rattle.congestion.specs.Congestions.{used_window, after_flush}
@@ -14,10 +13,9 @@ use Rattle.congestion.specs.declared.Losses.{Losses}
 use Rattle.retransmission.specs.Transmissions.{transmission}
 use Rattle.retransmission.specs.declared.Transmission.{Transmission}
 use Rattle.timing.specs.Probes.{next_clock}
-use Rattle.timing.specs.declared.Record.{Record}
 use Rattle.lists.specs.declared.Held.{Held}
 use Rattle.lists.specs.declared.Sent.{Sent}
-use Rattle.session.specs.State.{State, Sending, Receiving, Ack, with_numbers, with_notes, after_flushing}
+use Rattle.session.specs.State.{State, Sending, Ack, with_numbers, with_notes, after_flushing}
 
 -- ---- numbering
 

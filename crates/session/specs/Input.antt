@@ -1,6 +1,6 @@
 -- Taking in a datagram.
 -- Assumes nothing.
-use Rattle.std.specs.Prelude.{Bool, true, false, cond, not, ◌||◌, ◌&&◌, List, [], ◌∷◌, ◌++◌, map, ℕ, ◌*◌, ltb, eqb, length}
+use Rattle.std.specs.Prelude.{Bool, true, cond, not, ◌||◌, ◌&&◌, List, [], ◌∷◌, ◌++◌, map, ℕ, ◌*◌, ltb, eqb, length}
 use Rattle.std.proofs.lemmas.List.Edits.{sets}
 use Rattle.protocol.specs.Protocol.{push, ack, window_ask, receive_window, receive_slots, acks_most}
 use Rattle.protocol.specs.Ranges.{mss}
@@ -11,10 +11,7 @@ use Rattle.datagram.specs.Datagrams.{Segment, Parsed, parse}
 use Rattle.congestion.specs.Congestions.{after_datagram}
 use Rattle.congestion.specs.declared.Congestion.{Congestion}
 use Rattle.timing.specs.RoundTrips.{sampled}
-use Rattle.timing.specs.declared.RoundTrip.{RoundTrip}
-use Rattle.lists.specs.declared.Held.{Held}
 use Rattle.lists.specs.declared.Waiting.{Waiting}
-use Rattle.lists.specs.declared.Sent.{Sent}
 use Rattle.lists.specs.declared.Acknowledges.{Acknowledges}
 use Rattle.lists.specs.declared.Acknowledges.TheVariants as by
 use Rattle.lists.specs.Orders.{waiting_offset, is_held, insert}

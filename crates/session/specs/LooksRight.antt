@@ -1,6 +1,6 @@
 -- Errors that look right, as document 01 names them: what the definitions give where each would give something else. Proved by computing.
 -- Assumes nothing.
-use Rattle.std.specs.Prelude.{◌≡◌, refl, Bool, true, false, cond, List, [], ◌∷◌, ◌++◌, map, ℕ, length, replicate, take}
+use Rattle.std.specs.Prelude.{◌≡◌, refl, false, List, [], ◌∷◌, ◌++◌, map, ℕ, length, replicate, take}
 use Rattle.protocol.specs.Protocol.{push, ack, acks_most}
 use Rattle.protocol.specs.Serial.{signed, is_before, is_after, is_due}
 use Rattle.protocol.specs.declared.Settings.{Settings}

@@ -1,14 +1,13 @@
 -- The marked cases of document 01, as one table, proved by computing both sides.
 -- Assumes nothing.
-use Rattle.std.specs.Prelude.{◌≡◌, refl, Bool, true, false, cond, ℕ, ◌^◌, leb, length, replicate, ℤ, pos, neg_ℤ}
-use mathlib.Core.List.{List, [], ◌∷◌, ◌++◌, map, foldl}
-use Rattle.protocol.specs.Protocol.{push, timeout_first}
+use Rattle.std.specs.Prelude.{◌≡◌, refl, Bool, true, false, ℕ, ◌^◌, length, replicate, ℤ, pos, neg_ℤ}
+use mathlib.Core.List.{List, [], ◌∷◌, map}
+use Rattle.protocol.specs.Protocol.{push}
 use Rattle.protocol.specs.Refusals.{number_of}
 use Rattle.protocol.specs.Serial.{minus, signed, is_before, is_after, is_due}
 use Rattle.wire.specs.LittleEndian.{bytes_of, number_at}
 use Rattle.wire.specs.Headers.{encode, front, back, decode}
 use Rattle.protocol.specs.declared.Settings.{Settings}
-use Rattle.wire.specs.declared.Header.{Header}
 use Rattle.datagram.specs.Datagrams.{Segment, Parsed, parse, walk, tail, verdict, segment_of}
 use Rattle.timing.specs.Probes.{stopped, longer_wait, next_clock}
 use Rattle.timing.specs.RoundTrips.{next_smoothed, next_variation, least_timeout, timeout_of, sampled}
@@ -21,24 +20,12 @@ use Rattle.lists.specs.Orders.{insert, is_held}
 use Rattle.lists.specs.Receiving.{advance}
 use Rattle.lists.specs.declared.Waiting.{Waiting}
 use Rattle.session.specs.Slots.{occurs, lowest_from, lowest_free}
-use Rattle.session.specs.State.{State, Sending, Receiving, Ack, Outcome, with_receiving, with_notes}
+use Rattle.session.specs.State.{State, Ack, Outcome, with_receiving, with_notes}
 use Rattle.session.specs.Opening.{opened}
 use Rattle.session.specs.Cutting.{fragment_count, segment_count, pieces, cut, cut_as}
-use Rattle.session.specs.Sending.{Sends, sending, place, Placed, filled}
-use Rattle.session.specs.Flushing.{
-  Flushed,
-  flushing,
-  numbered_count,
-  with_numbered,
-  numbered,
-  transmitted,
-  written,
-  packed,
-  pack_one,
-  bytes_of_segment,
-  bytes_of_segments,
-}
-use Rattle.session.specs.Input.{Receiver, pushed}
+use Rattle.session.specs.Sending.{Sends, sending, place, filled}
+use Rattle.session.specs.Flushing.{flushing, numbered_count, with_numbered, numbered, transmitted, written, packed, pack_one, bytes_of_segment, bytes_of_segments}
+use Rattle.session.specs.Input.{pushed}
 
 -- whether a flush sends a segment, and when the segment is due then
 pub record Flush : Type 0 where

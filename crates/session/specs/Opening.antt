@@ -1,12 +1,12 @@
 -- Opening a link.
 -- Assumes nothing.
-use Rattle.std.specs.Prelude.{Bool, false, cond, []}
+use Rattle.std.specs.Prelude.{false, cond, []}
 use Rattle.protocol.specs.Protocol.{receive_window, timeout_first}
 use Rattle.protocol.specs.Ranges.{in_range, mss}
 use Rattle.protocol.specs.declared.Settings.{Settings}
 use Rattle.protocol.specs.declared.Refusal.TheVariants.{SettingOutOfRange, ShortPart}
 use Rattle.congestion.specs.Congestions.{initial}
-use Rattle.session.specs.State.{State, Sending, Receiving, Outcome, refused, done}
+use Rattle.session.specs.State.{State, Outcome, refused, done}
 use Rattle.sizes.specs.Sizes.{enough}
 use Rattle.sizes.specs.declared.Lengths.{Lengths}
 

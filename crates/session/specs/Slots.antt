@@ -1,7 +1,7 @@
 -- What occurs in a list of numbers, how many do, and the lowest number that does not: free slots, and the next number expected.
 -- Definitions.
 -- Assumes nothing.
-use Rattle.std.specs.Prelude.{List, [], ◌∷◌, Bool, true, false, cond, ◌||◌, ℕ, zero, suc, eqb}
+use Rattle.std.specs.Prelude.{List, [], ◌∷◌, Bool, false, cond, ◌||◌, ℕ, zero, suc, eqb}
 
 -- n is one of the list
 unfoldable pub occurs : ℕ → List ℕ → Bool

@@ -3,7 +3,6 @@
 use Rattle.std.specs.Prelude.{cond, List, map, ℕ}
 use Rattle.lists.specs.declared.Sent.{Sent}
 use Rattle.schedule.specs.Schedules.{updated, named}
-use Rattle.schedule.specs.declared.Updated.{Updated}
 use Rattle.session.specs.State.{State, with_times, with_schedule}
 use Rattle.session.specs.Flushing.{Flushed, flushing}
 

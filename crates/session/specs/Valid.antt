@@ -1,6 +1,6 @@
 -- Which states a link makes (refusal 13): the conditions of document 01, each a test that computes.
 -- Assumes nothing.
-use Rattle.std.specs.Prelude.{Bool, true, false, not, ◌&&◌, ◌||◌, List, [], ◌∷◌, ◌++◌, map, ℕ, suc, ◌^◌, leb, ltb, eqb, length}
+use Rattle.std.specs.Prelude.{Bool, true, not, ◌&&◌, ◌||◌, List, [], ◌∷◌, ℕ, ◌^◌, leb, ltb, eqb, length}
 use Rattle.protocol.specs.Protocol.{
   fragment_most,
   send_slots,
@@ -22,7 +22,6 @@ use Rattle.timing.specs.RoundTrips.{least_timeout}
 use Rattle.timing.specs.declared.RoundTrip.{RoundTrip}
 use Rattle.timing.specs.declared.ProbeClock.{ProbeClock}
 use Rattle.lists.specs.declared.Held.{Held}
-use Rattle.lists.specs.declared.Waiting.{Waiting}
 use Rattle.lists.specs.declared.Sent.{Sent}
 use Rattle.lists.specs.Orders.{ascending, sent_offset, waiting_offset}
 use Rattle.lists.specs.Receiving.{starts_at}

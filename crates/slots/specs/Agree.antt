@@ -1,7 +1,7 @@
 -- The slots' own notions are those of the link's definitions: what occurs, the lowest free slot, and slots held once.
 -- Assumes nothing.
-use Rattle.std.specs.Prelude.{◌≡◌, refl, Bool, true, false, cond, not, ◌&&◌, ◌||◌, List, [], ◌∷◌, ℕ, zero, suc, ◌+◌, eqb, ltb}
-use Rattle.std.proofs.Common.{sym, ap, ap₂, ◌∙◌, add-one}
+use Rattle.std.specs.Prelude.{◌≡◌, refl, ◌&&◌, List, [], ◌∷◌, ℕ, zero, suc, ◌+◌, ltb}
+use Rattle.std.proofs.Common.{ap₂, add-one}
 use Rattle.lists.specs.declared.Held.{Held}
 use Rattle.session.specs.Slots as session
 use Rattle.session.specs.Valid as valid

@@ -1,6 +1,7 @@
 // Taking in a datagram over the block behind a pointer: the records of the outstanding segments are gathered from the lent table, and put
 // back.
 #![tactic(auto)]
+
 ghost use Rattle.promises.specs.Parts.{parts_of};
 ghost use Rattle.promises.specs.Promises.{InputPromise};
 ghost use Rattle.codes.specs.Codes.{answer_code};

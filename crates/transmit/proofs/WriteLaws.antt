@@ -3,16 +3,15 @@
 use mathlib.Core.Path.{◌≡◌}
 use mathlib.Core.Bool.{Bool}
 use mathlib.Core.List.{List, [], ◌++◌, map, foldl, append_assoc}
-use Prim.Native.Nat.{ℕ, ◌+◌, ◌*◌, ◌≤◌, ◌<◌, ◌^◌}
+use Prim.Native.Nat.{ℕ, ◌+◌, ◌*◌, ◌<◌, ◌^◌}
 use native.Mathlib.Omega.{arith}
-use lib.ListN.{length}
 use Rattle.protocol.specs.Protocol.{window_ask, window_tell}
 use Rattle.lists.specs.declared.Sent.{Sent}
 use Rattle.datagram.specs.Datagrams.{Segment}
 use Rattle.session.specs.State.{Ack}
 use Rattle.session.specs.Flushing.{control, ack_segment, wished, pack_one, packed}
 use Rattle.packing.specs.declared.Packer.{Packer}
-use Rattle.packing.specs.Packers.{carried_of, Output, bytes_of_datagrams, none, begun, Fills, Room, Adds, Finishes}
+use Rattle.packing.specs.Packers.{carried_of, Output, bytes_of_datagrams, none, Room, Adds, Finishes}
 use Rattle.packing.specs.PackerLaws.{adds_append, room_left, packs_none, finishes_output}
 use Rattle.transmit.specs.declared.Flush.{Flush}
 use Rattle.transmit.specs.declared.Walked.{Walked}
@@ -30,27 +29,11 @@ module _ (f : Flush) (noted : ℕ) (acks words transmissions records : List ℕ)
         datagrams = omega (arith, w.sizes);
       }
 
-  -- for the controls
-  pub controls_room : (k : Packer) → k ≡ none → f.settings.mtu < 2 ^ 16
-      → Room f.settings.mtu (24 * noted + 48) (noted + 2) k out lengths
-  controls_room k e h = rw e (record {
-    fills = (whole_room h).fills;
-    bytes = omega (arith, w.few, w.bytes);
-    datagrams = omega (arith, w.few, w.sizes);
-  })
-
   module _ (gs : List Segment) (k₀ k : Packer) (out' lengths' : List ℕ) (e : k₀ ≡ none)
       (a : Adds f.settings.mtu gs (24 * noted + 48) (noted + 2) k₀ out lengths k out' lengths') where
     -- for the data
     pub data_left : Room f.settings.mtu (32 * f.settings.mtu) 32 k out' lengths'
     data_left = room_left (rw e at a) (whole_room a.fills.word) (omega (arith, w.few)) (omega (arith, w.few))
-
-    -- for the last length
-    pub last_left : (l : List Sent) (r : Walked) (transmissions' records' out'' lengths'' : List ℕ)
-        → Walks f l words n pool k out' lengths' r transmissions' records' out'' lengths''
-        → Fills f.settings.mtu r.packer × (begun r.packer ≤ length lengths'')
-    last_left l r transmissions' records' out'' lengths'' v =
-        (v.adds.fills, omega (arith, v.adds.datagrams, v.adds.lengths_length, data_left.datagrams))
 
 -- ---- what is written
 

@@ -1,8 +1,7 @@
 -- Laws of `Headers`: the two round trips.
 -- Assumes nothing.
-use Rattle.std.specs.Prelude.{◌≡◌, refl, List, ◌++◌, ℕ, ◌+◌, ◌≤◌, leb, length, take, drop}
-use Rattle.std.proofs.Common.{append_assoc, add-zero, arith, le-leb, take-add, drop-drop}
-use Rattle.std.proofs.lemmas.Bool.{lt-leb}
+use Rattle.std.specs.Prelude.{◌≡◌, refl, List, ◌++◌, ℕ, ◌+◌, ◌≤◌, length, take, drop}
+use Rattle.std.proofs.Common.{append_assoc, add-zero, arith, take-add, drop-drop}
 use Rattle.std.proofs.Math.ListN.{length-append}
 use Rattle.std.proofs.lemmas.List.Edits.{sets}
 use Rattle.wire.specs.LittleEndian.{bytes_of, number_at, AllBytes}

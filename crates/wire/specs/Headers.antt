@@ -1,6 +1,6 @@
 -- What a segment's header is as bytes. Definitions.
 -- Assumes nothing.
-use Rattle.std.specs.Prelude.{◌≡◌, Bool, true, false, cond, List, ◌++◌, ℕ, ◌+◌, ◌^◌, ◌<◌, leb, length}
+use Rattle.std.specs.Prelude.{◌≡◌, Bool, cond, List, ◌++◌, ℕ, ◌+◌, ◌^◌, ◌<◌, leb, length}
 use Rattle.std.proofs.lemmas.List.Edits.{sets}
 use Rattle.wire.specs.LittleEndian.{bytes_of, number_at}
 use Rattle.protocol.specs.Protocol.{header_size}

@@ -1,7 +1,7 @@
 -- The premises of the quiet theorem can be met by steps that keep the promises of the public calls: a sender whose first update, at 7,
 -- flushes; a check at 8 that names 107; updates at 106 and then at 20, a clock that goes back, which both wait. Proved by computing.
 -- Assumes nothing.
-use Rattle.std.specs.Prelude.{refl, List, [], ◌∷◌, ℕ, replicate}
+use Rattle.std.specs.Prelude.{refl, [], ◌∷◌, ℕ, replicate}
 use Rattle.std.proofs.Common.{arith}
 use Rattle.std.proofs.lemmas.List.Edits.{sets}
 use Rattle.protocol.specs.Protocol.{output_least, lengths_least}
@@ -51,12 +51,11 @@ use Rattle.session.specs.Flushing.{
 }
 use Rattle.session.specs.Updating.{updating, checking}
 use Rattle.session.specs.Opening.{opened, opening}
-use Rattle.session.specs.Calls.{Call, Reply, Event}
+use Rattle.session.specs.Calls.{Call, Reply}
 use Rattle.words.specs.Words.{paired}
 use Rattle.control.specs.Views.{pairs, state_of, counts_fit, block_valid}
 use Rattle.records.specs.Tables.{blank, scattered}
 use Rattle.packing.specs.Packers.{joined, lengths_of}
-use Rattle.answers.specs.declared.Update.{Update}
 use Rattle.answers.specs.declared.Update.TheVariants as update
 use Rattle.answers.specs.declared.Time.TheVariants as time
 use Rattle.promises.specs.Parts.{FlushParts, flush_parts_of}
@@ -66,7 +65,6 @@ use Rattle.demands.specs.Steps.{Endpoint, cut_by, Called, start, next, SinceOpen
 use Rattle.demands.specs.Quiet as quiet
 use Rattle.demands.specs.Quiet.{StaysQuiet, NoSooner}
 use Rattle.demands.proofs.QuietLaws.{stays_quiet, no_sooner, fits_since}
-use Rattle.witnesses.specs.Blocks.{link_of, after_send}
 use Rattle.witnesses.specs.OfStations.{bytes_by, c}
 use Rattle.witnesses.specs.OfEndpoints.{parts, fresh, sent, datagram, opens_fresh, sends_it}
 

@@ -14,7 +14,8 @@ invariant-loop-i l =
     (length l.words ≡ 32)
     × (length l.transmissions ≡ 32)
     × (length l.records ≡ 128)
-    × Packed 32 l.n (beside l.initial.words l.initial.transmissions (records_in l.initial.records)) (beside l.words l.transmissions (records_in l.records))
+    × Packed 32 l.n (beside l.initial.words l.initial.transmissions (records_in l.initial.records))
+    (beside l.words l.transmissions (records_in l.records))
     (filter (stays_by l.next l.h) (drop l.i (take l.n (beside l.initial.words l.initial.transmissions (records_in l.initial.records)))))
     (filter (stays_by l.next l.h) (take l.n (beside l.initial.words l.initial.transmissions (records_in l.initial.records)))) l.i l.j
 

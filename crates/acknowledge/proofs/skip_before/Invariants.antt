@@ -11,7 +11,8 @@ use Rattle.acknowledge.proofs.skip_before.Given as goal
 abbrev pub invariant-loop-i : goal.invariant-loop-i
 invariant-loop-i l =
     (length l.records ≡ 128)
-    × Packed 32 l.n (records_in l.initial.records) (records_in l.records) (map (skip_record l.number) (drop l.i (take l.n (records_in l.initial.records))))
+    × Packed 32 l.n (records_in l.initial.records) (records_in l.records)
+    (map (skip_record l.number) (drop l.i (take l.n (records_in l.initial.records))))
     (map (skip_record l.number) (take l.n (records_in l.initial.records))) l.i l.i
 
 abbrev pub decreases-loop-i : goal.decreases-loop-i

@@ -7,7 +7,6 @@ use Rattle.checking.proofs.Turns.{none_whole, not-true, not-false}
 use Rattle.checking.proofs.Whole.{unfit, unsent, sent_fits_lem}
 use Rattle.checking.proofs.sound.Goals as goal
 
-
 pub returns-then-not-numbers_fit : goal.returns-then-not-numbers_fit
 returns-then-not-numbers_fit c = λ flown rs f.
     let s = c in

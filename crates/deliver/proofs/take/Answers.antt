@@ -41,6 +41,6 @@ returns c =
       same_acks = f.same_acks;
       reads = λ acks. f.reads acks (sym k.front_count-k.ensures);
       bytes = rw (message_words a.args.ready.now a.args.arrival.ready _ (let long' : a.args.arrival.ready ≤ length a.args.ready.now = omega (arith, a.requires.0.whole_ready, a.requires.1.few_ready) in long') k.front_count-k.ensures (let within' : k.front_count-k.result ≤ k.args.arrival.ready = let a = k in
-    message_within a.args.ready.now _ _ (let long' : a.args.arrival.ready ≤ length a.args.ready.now = omega (arith, a.requires.0.whole_ready, a.requires.1.few_ready) in long') k.front_count-k.ensures a.requires.3.complete in within')) at
+          message_within a.args.ready.now _ _ (let long' : a.args.arrival.ready ≤ length a.args.ready.now = omega (arith, a.requires.0.whole_ready, a.requires.1.few_ready) in long') k.front_count-k.ensures a.requires.3.complete in within')) at
           c.copy_first.ensures;
     }

@@ -49,20 +49,20 @@ returns-in-Passed c =
     let a = start.args in (
       ran _ _ _ _ _ a.records.now a.table a.send_pool.now a.receive_pool.now a.acks.now a.output.now
           a.lengths.now _ _ sizes.enough_to_flush-long.ensures ((let judged' : (acks : List ℕ)
-    → let sizes = checks in
-    let start = sizes in
-    checks.judged-verdict.result ≡ verdict_of sizes.enough_to_flush-long.result
-    (block_valid (let a = start.args in
-    link_of a.settings a.flight a.arrival a.clock
-    (arrays a.queued.now a.outstanding.now a.transmissions.now a.ready.now a.waiting.now a.waiting_numbers.now)) (records_in start.args.records.now) acks) = λ acks. let fits = checks in
-    let sizes = fits in
-    let start = sizes in
-    let marked = start.requires.2 in
-    (admitted (let a = start.args in
-    link_of a.settings a.flight a.arrival a.clock
-    (arrays a.queued.now a.outstanding.now a.transmissions.now a.ready.now a.waiting.now a.waiting_numbers.now)) (records_in start.args.records.now) marked.0 marked.1.0 sizes.enough_to_flush-long.result
-    start.args.sound fits.flight_fits-flown.result checks.judged-verdict.result checks.judged-verdict.ensures marked.1.1
-    (record { whole = records_length 32 _ start.requires.1; fits = fits.flight_fits-flown.ensures })).verdict acks in judged') _) passed.in-Passed.is a.paced a.t
+          → let sizes = checks in
+          let start = sizes in
+          checks.judged-verdict.result ≡ verdict_of sizes.enough_to_flush-long.result
+          (block_valid (let a = start.args in
+          link_of a.settings a.flight a.arrival a.clock
+          (arrays a.queued.now a.outstanding.now a.transmissions.now a.ready.now a.waiting.now a.waiting_numbers.now)) (records_in start.args.records.now) acks) = λ acks. let fits = checks in
+          let sizes = fits in
+          let start = sizes in
+          let marked = start.requires.2 in
+          (admitted (let a = start.args in
+          link_of a.settings a.flight a.arrival a.clock
+          (arrays a.queued.now a.outstanding.now a.transmissions.now a.ready.now a.waiting.now a.waiting_numbers.now)) (records_in start.args.records.now) marked.0 marked.1.0 sizes.enough_to_flush-long.result
+          start.args.sound fits.flight_fits-flown.result checks.judged-verdict.result checks.judged-verdict.ensures marked.1.1
+          (record { whole = records_length 32 _ start.requires.1; fits = fits.flight_fits-flown.ensures })).verdict acks in judged') _) passed.in-Passed.is a.paced a.t
           runs.run.result _ _ _ _
           (runs.run.ensures.0 a.ready.now a.waiting.now a.waiting_numbers.now start.requires.0.whole_ready),
       runs.run.ensures.1,
@@ -77,20 +77,20 @@ returns-in-Refused c =
     let a = start.args in (
       unflushed _ _ _ _ _ a.records.now a.table a.send_pool.now a.receive_pool.now a.acks.now a.output.now
           a.lengths.now _ _ sizes.enough_to_flush-long.ensures ((let judged' : (acks : List ℕ)
-    → let sizes = checks in
-    let start = sizes in
-    checks.judged-verdict.result ≡ verdict_of sizes.enough_to_flush-long.result
-    (block_valid (let a = start.args in
-    link_of a.settings a.flight a.arrival a.clock
-    (arrays a.queued.now a.outstanding.now a.transmissions.now a.ready.now a.waiting.now a.waiting_numbers.now)) (records_in start.args.records.now) acks) = λ acks. let fits = checks in
-    let sizes = fits in
-    let start = sizes in
-    let marked = start.requires.2 in
-    (admitted (let a = start.args in
-    link_of a.settings a.flight a.arrival a.clock
-    (arrays a.queued.now a.outstanding.now a.transmissions.now a.ready.now a.waiting.now a.waiting_numbers.now)) (records_in start.args.records.now) marked.0 marked.1.0 sizes.enough_to_flush-long.result
-    start.args.sound fits.flight_fits-flown.result checks.judged-verdict.result checks.judged-verdict.ensures marked.1.1
-    (record { whole = records_length 32 _ start.requires.1; fits = fits.flight_fits-flown.ensures })).verdict acks in judged') _) _ answer.in-Refused.is a.t _
+          → let sizes = checks in
+          let start = sizes in
+          checks.judged-verdict.result ≡ verdict_of sizes.enough_to_flush-long.result
+          (block_valid (let a = start.args in
+          link_of a.settings a.flight a.arrival a.clock
+          (arrays a.queued.now a.outstanding.now a.transmissions.now a.ready.now a.waiting.now a.waiting_numbers.now)) (records_in start.args.records.now) acks) = λ acks. let fits = checks in
+          let sizes = fits in
+          let start = sizes in
+          let marked = start.requires.2 in
+          (admitted (let a = start.args in
+          link_of a.settings a.flight a.arrival a.clock
+          (arrays a.queued.now a.outstanding.now a.transmissions.now a.ready.now a.waiting.now a.waiting_numbers.now)) (records_in start.args.records.now) marked.0 marked.1.0 sizes.enough_to_flush-long.result
+          start.args.sound fits.flight_fits-flown.result checks.judged-verdict.result checks.judged-verdict.ensures marked.1.1
+          (record { whole = records_length 32 _ start.requires.1; fits = fits.flight_fits-flown.ensures })).verdict acks in judged') _) _ answer.in-Refused.is a.t _
           c.unflushed.ensures _ a.paced,
       start.requires.1,
     )

@@ -43,7 +43,7 @@ front_place-requires c =
     (arrays a.queued.now a.outstanding.now a.transmissions.now a.ready.now a.waiting.now a.waiting_numbers.now)) rs _ _ _ s.args.sound s.args.flown _ verdict.judged-verdict.ensures s.requires.2.1.1 w in judged') s.requires.1.0 s.requires.1.1).verdict k.in-Passed.is s.args.receive_pool.now refl in passed') in (
       s.requires.0.whole_ready,
       (block_counts (let a = s.args in link_of a.settings a.flight a.arrival a.clock
-    (arrays a.queued.now a.outstanding.now a.transmissions.now a.ready.now a.waiting.now a.waiting_numbers.now)) ok.counts).ready,
+          (arrays a.queued.now a.outstanding.now a.transmissions.now a.ready.now a.waiting.now a.waiting_numbers.now)) ok.counts).ready,
       rw c.mss.ensures ok.inside.each,
       rw c.mss.ensures ok.mss_low,
     )

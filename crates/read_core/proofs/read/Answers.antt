@@ -46,18 +46,18 @@ read_message-requires c =
       record { whole_ready = w.whole_ready; whole_waiting = w.whole_waiting; whole_numbers = w.whole_numbers },
       record { few_ready = n.ready; few_waiting = n.waiting },
       rw mss.mss-mss.ensures (let passed' : let s = k in
-    Readable (let a = s.args in link_of a.settings a.flight a.arrival a.clock
-    (arrays a.queued.now a.outstanding.now a.transmissions.now a.ready.now a.waiting.now a.waiting_numbers.now)) s.args.receive_pool.now = let verdict = k in
-    let s = verdict in
-    passes_readable (let a = s.args in link_of a.settings a.flight a.arrival a.clock
-    (arrays a.queued.now a.outstanding.now a.transmissions.now a.ready.now a.waiting.now a.waiting_numbers.now)) s.requires.1.0 s.args.acks.now (let a = s.args in lent_lengths a.table a.send_pool.now a.receive_pool.now a.acks.now) _ verdict.enough-long.ensures _
-    ((let judged' : (rs : List Record) → let sizes = verdict in let s = sizes in
-    Flown (let a = s.args in link_of a.settings a.flight a.arrival a.clock
-    (arrays a.queued.now a.outstanding.now a.transmissions.now a.ready.now a.waiting.now a.waiting_numbers.now)) rs s.args.flown
-    → Admitted sizes.enough-long.result (let a = s.args in link_of a.settings a.flight a.arrival a.clock
-    (arrays a.queued.now a.outstanding.now a.transmissions.now a.ready.now a.waiting.now a.waiting_numbers.now)) rs s.requires.2.0 s.requires.2.1.0 verdict.judged-verdict.result = λ rs w. let s = verdict in
-    admitted (let a = s.args in link_of a.settings a.flight a.arrival a.clock
-    (arrays a.queued.now a.outstanding.now a.transmissions.now a.ready.now a.waiting.now a.waiting_numbers.now)) rs _ _ _ s.args.sound s.args.flown _ verdict.judged-verdict.ensures s.requires.2.1.1 w in judged') s.requires.1.0 s.requires.1.1).verdict k.in-Passed.is s.args.receive_pool.now refl in passed').inside,
+          Readable (let a = s.args in link_of a.settings a.flight a.arrival a.clock
+          (arrays a.queued.now a.outstanding.now a.transmissions.now a.ready.now a.waiting.now a.waiting_numbers.now)) s.args.receive_pool.now = let verdict = k in
+          let s = verdict in
+          passes_readable (let a = s.args in link_of a.settings a.flight a.arrival a.clock
+          (arrays a.queued.now a.outstanding.now a.transmissions.now a.ready.now a.waiting.now a.waiting_numbers.now)) s.requires.1.0 s.args.acks.now (let a = s.args in lent_lengths a.table a.send_pool.now a.receive_pool.now a.acks.now) _ verdict.enough-long.ensures _
+          ((let judged' : (rs : List Record) → let sizes = verdict in let s = sizes in
+          Flown (let a = s.args in link_of a.settings a.flight a.arrival a.clock
+          (arrays a.queued.now a.outstanding.now a.transmissions.now a.ready.now a.waiting.now a.waiting_numbers.now)) rs s.args.flown
+          → Admitted sizes.enough-long.result (let a = s.args in link_of a.settings a.flight a.arrival a.clock
+          (arrays a.queued.now a.outstanding.now a.transmissions.now a.ready.now a.waiting.now a.waiting_numbers.now)) rs s.requires.2.0 s.requires.2.1.0 verdict.judged-verdict.result = λ rs w. let s = verdict in
+          admitted (let a = s.args in link_of a.settings a.flight a.arrival a.clock
+          (arrays a.queued.now a.outstanding.now a.transmissions.now a.ready.now a.waiting.now a.waiting_numbers.now)) rs _ _ _ s.args.sound s.args.flown _ verdict.judged-verdict.ensures s.requires.2.1.1 w in judged') s.requires.1.0 s.requires.1.1).verdict k.in-Passed.is s.args.receive_pool.now refl in passed').inside,
     )
 
 pub returns-in-Passed : goal.returns-in-Passed

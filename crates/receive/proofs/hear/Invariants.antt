@@ -11,7 +11,8 @@ use Rattle.receive.proofs.hear.Given as goal
 abbrev pub invariant-loop-header : goal.invariant-loop-header
 invariant-loop-header l =
     WholeLists l.ready l.waiting l.numbers
-    × Walking l.settings l.s (half_of l.initial.a l.initial.ready l.initial.waiting l.initial.numbers) l.initial.acks l.initial.pool (half_of l.a l.ready l.waiting l.numbers) l.acks l.pool l.at
+    × Walking l.settings l.s (half_of l.initial.a l.initial.ready l.initial.waiting l.initial.numbers)
+    l.initial.acks l.initial.pool (half_of l.a l.ready l.waiting l.numbers) l.acks l.pool l.at
     × Marked (half_of l.a l.ready l.waiting l.numbers) l.marks l.slot
     × (length l.acks ≡ length l.initial.acks)
     × (length l.pool ≡ length l.initial.pool)

@@ -8,7 +8,8 @@ use Rattle.transmit.proofs.controls.put_acks.Given as goal
 
 abbrev pub invariant-loop-i : goal.invariant-loop-i
 invariant-loop-i l =
-    (l.i ≤ l.n) × Adds l.mtu (map (ack_segment (carried_of l.carried)) (pairs l.i l.acks)) (24 * l.i) l.i l.initial.k l.initial.out l.initial.lengths l.k l.out l.lengths
+    (l.i ≤ l.n)
+    × Adds l.mtu (map (ack_segment (carried_of l.carried)) (pairs l.i l.acks)) (24 * l.i) l.i l.initial.k l.initial.out l.initial.lengths l.k l.out l.lengths
 
 abbrev pub decreases-loop-i : goal.decreases-loop-i
 decreases-loop-i l = l.n - l.i

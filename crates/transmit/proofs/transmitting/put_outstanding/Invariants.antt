@@ -7,7 +7,8 @@ use Rattle.transmit.proofs.transmitting.put_outstanding.Given as goal
 
 abbrev pub invariant-loop-i : goal.invariant-loop-i
 invariant-loop-i l =
-    Walking l.flush l.n l.pool l.initial.k l.initial.out l.initial.lengths (sents l.words l.initial.transmissions (records_in l.initial.records)) l.words l.transmissions l.records l.k l.out l.lengths l.dead l.late l.fast l.sent l.i
+    Walking l.flush l.n l.pool l.initial.k l.initial.out l.initial.lengths
+    (sents l.words l.initial.transmissions (records_in l.initial.records)) l.words l.transmissions l.records l.k l.out l.lengths l.dead l.late l.fast l.sent l.i
 
 abbrev pub decreases-loop-i : goal.decreases-loop-i
 decreases-loop-i l =
