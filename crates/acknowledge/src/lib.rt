@@ -1,5 +1,6 @@
 // The sending half hears a datagram in place: windows and round trips, what is acknowledged, and skips.
 #![tactic(auto)]
+
 ghost use Rattle.std.specs.Prelude.{◌≡◌, cond, not, ◌&&◌, map, ℕ, ◌^◌, ◌≤◌, ◌<◌, ltb, take, length};
 ghost use Rattle.protocol.specs.Ranges.{mss};
 ghost use Rattle.protocol.specs.Serial.{is_before};

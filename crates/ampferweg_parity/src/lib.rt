@@ -1,5 +1,6 @@
 // Parity for C: groups written and read. A number below zero is a refusal's.
 #![tactic(auto)]
+
 ghost use Rattle.std.specs.Prelude.{◌≡◌, length};
 ghost use Rattle.frames.specs.Outcomes.{write_of};
 ghost use Rattle.frames.specs.Reading.{read_of};
@@ -25,8 +26,7 @@ fn answer_code(answer: Answer) -> i32
 }
 
 // Writes group `group` of k datagrams: the count of frames, or the refusal.
-#[unsafe(no_mangle)]
-pub extern "C" fn ampferweg_parity_write(
+pub fn ampferweg_parity_write(
     group: u32,
     k: u32,
     mtu: u32,
@@ -45,8 +45,7 @@ pub extern "C" fn ampferweg_parity_write(
 }
 
 // Reads a group from frames of it: the count of datagrams, or the refusal.
-#[unsafe(no_mangle)]
-pub extern "C" fn ampferweg_parity_read(
+pub fn ampferweg_parity_read(
     k: u32,
     mtu: u32,
     frames: &[u8],

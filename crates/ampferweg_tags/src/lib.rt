@@ -1,5 +1,6 @@
 // Tags for C: tag messages and tables of tags. A number below zero is a refusal's.
 #![tactic(auto)]
+
 ghost use Rattle.std.specs.Prelude.{◌≡◌};
 ghost use Rattle.codes.specs.Codes.{number_code};
 ghost use Rattle.tag_message.specs.Tags.{number_of};
@@ -40,8 +41,7 @@ fn presence_code(presence: Presence) -> i32
 }
 
 // Writes the message of a name and a value at the start of a part: its length, or the refusal.
-#[unsafe(no_mangle)]
-pub extern "C" fn ampferweg_tag_write(name: &[u8], value: &[u8], message: &mut [u8]) -> i32
+pub fn ampferweg_tag_write(name: &[u8], value: &[u8], message: &mut [u8]) -> i32
     ensures { TellsWriting name.now value.now message.old result message.new }
 {
     match tag_message::write(name, value, message) {
@@ -51,12 +51,7 @@ pub extern "C" fn ampferweg_tag_write(name: &[u8], value: &[u8], message: &mut [
 }
 
 // Reads a message: 0, and the lengths of its name and its value are stored; or the refusal, and nothing is.
-#[unsafe(no_mangle)]
-pub extern "C" fn ampferweg_tag_read(
-    message: &[u8],
-    name_len: &mut usize,
-    value_len: &mut usize,
-) -> i32
+pub fn ampferweg_tag_read(message: &[u8], name_len: &mut usize, value_len: &mut usize) -> i32
     ensures { Stores (read_from message.now) result
         name_len.old value_len.old name_len.new value_len.new }
 {
@@ -71,8 +66,7 @@ pub extern "C" fn ampferweg_tag_read(
 }
 
 // Sets a tag: 0, or the refusal.
-#[unsafe(no_mangle)]
-pub extern "C" fn ampferweg_tag_set(table: &mut [u8], name: &[u8], value: &[u8]) -> i32
+pub fn ampferweg_tag_set(table: &mut [u8], name: &[u8], value: &[u8]) -> i32
     ensures { TellsSet name.now value.now table.old result table.new }
 {
     let changing = tag_table::set(table, name, value);
@@ -80,8 +74,7 @@ pub extern "C" fn ampferweg_tag_set(table: &mut [u8], name: &[u8], value: &[u8])
 }
 
 // Reads a message and sets its tag: 0, or the refusal.
-#[unsafe(no_mangle)]
-pub extern "C" fn ampferweg_tag_take(table: &mut [u8], message: &[u8]) -> i32
+pub fn ampferweg_tag_take(table: &mut [u8], message: &[u8]) -> i32
     ensures { TellsTake message.now table.old result table.new }
 {
     let changing = tag_table::take(table, message);
@@ -89,8 +82,7 @@ pub extern "C" fn ampferweg_tag_take(table: &mut [u8], message: &[u8]) -> i32
 }
 
 // Removes a name: 0, or the refusal.
-#[unsafe(no_mangle)]
-pub extern "C" fn ampferweg_tag_remove(table: &mut [u8], name: &[u8]) -> i32
+pub fn ampferweg_tag_remove(table: &mut [u8], name: &[u8]) -> i32
     ensures { TellsRemove name.now table.old result table.new }
 {
     let changing = tag_table::remove(table, name);
@@ -99,8 +91,7 @@ pub extern "C" fn ampferweg_tag_remove(table: &mut [u8], name: &[u8]) -> i32
 
 // Where the value of a name is: 0 for the own table, 1 for the defaults, and start and length of the part; 0 and an empty part
 // where nothing is found, or asking is refused.
-#[unsafe(no_mangle)]
-pub extern "C" fn ampferweg_tag_ask(
+pub fn ampferweg_tag_ask(
     own: &[u8],
     defaults: &[u8],
     name: &[u8],
@@ -135,8 +126,7 @@ pub extern "C" fn ampferweg_tag_ask(
 }
 
 // Whether a name is found: 1, 0, or the refusal.
-#[unsafe(no_mangle)]
-pub extern "C" fn ampferweg_tag_found(own: &[u8], defaults: &[u8], name: &[u8]) -> i32
+pub fn ampferweg_tag_found(own: &[u8], defaults: &[u8], name: &[u8]) -> i32
     ensures { result ≡ presence_code (found_by (find_in own.now defaults.now name.now)) }
 {
     let presence = tag_find::found(own, defaults, name);

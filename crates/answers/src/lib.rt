@@ -1,5 +1,6 @@
 // What a call answers: that it is done, with a count where it has one, or why it is refused.
 #![tactic(auto)]
+
 use protocol::Refusal;
 
 // Of opening, sending and taking in.

@@ -1,5 +1,6 @@
 // What an archive tells of itself, for a host that compares it with its header.
 #![tactic(auto)]
+
 ghost use Rattle.std.specs.Prelude.{◌≡◌};
 ghost use Rattle.archive.specs.Blocks.{block_size, version_number};
 

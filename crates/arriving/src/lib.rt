@@ -1,5 +1,6 @@
 // The lists of the receiving half in place: waiting segments become ready; the segments of a message that was read are freed.
 #![tactic(auto)]
+
 ghost use Rattle.std.specs.Prelude.{◌≡◌, ◌&&◌, ◌||◌, List, ◌++◌, ℕ, ◌+◌, ◌≤◌, min, take, length, eqb, ltb};
 ghost use Rattle.lists.specs.Receiving.{run_of};
 ghost use Rattle.lists.specs.Views.{held_of, waiting_of};

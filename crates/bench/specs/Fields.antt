@@ -1,13 +1,13 @@
 -- The numbers of a link and of what it is lent, by the numbers that the commands of a script have for them. Definitions.
 -- Assumes nothing.
-use Rattle.std.specs.Prelude.{◌≡◌, false, cond, List, [], ◌∷◌, ◌++◌, map, ◌⊎◌, ℕ, ◌%◌, ◌≤◌, ◌<◌, eqb, length, get_or, set, replicate}
+use Rattle.std.specs.Prelude.{◌≡◌, false, cond, List, [], ◌∷◌, ◌++◌, map, ℕ, ◌%◌, ◌≤◌, ◌<◌, eqb, length, get_or, set, replicate}
 use Rattle.std.proofs.lemmas.List.Edits.{sets}
 use Rattle.lists.specs.declared.Held.{Held}
 use Rattle.lists.specs.declared.Outstanding.{Outstanding}
 use Rattle.lists.specs.declared.Waiting.{Waiting}
 use Rattle.protocol.specs.declared.Settings.{Settings}
 use Rattle.words.specs.Words.{unpack, paired, outstanding_at, waiting_at}
-use Rattle.control.specs.Views.{Arrays, arrays_of}
+use Rattle.control.specs.Views.{arrays_of}
 use Rattle.control.specs.declared.Link.{Link}
 use Rattle.bench.specs.declared.Lent.{Lent}
 use Rattle.bench.specs.declared.Bench.{Bench}

@@ -1,5 +1,6 @@
 // The state of the bench: a link, its table of records, and how much of each part it is lent.
 #![tactic(auto)]
+
 pub mod poke;
 
 ghost use Rattle.std.specs.Prelude.{◌≡◌, true, false, ◌≤◌, set};

@@ -1,5 +1,6 @@
 // The link's calls over the state of the bench: each is lent as much of every part as the bench says.
 #![tactic(auto)]
+
 ghost use Rattle.std.specs.Prelude.{◌≡◌};
 ghost use Rattle.bench_calls.specs.Fronts.{Front};
 ghost use Rattle.bench_calls.specs.BenchPromises.{after, after_open, BenchOpens, BenchSends, BenchTakesIn};

@@ -1,5 +1,6 @@
-// The check of a block behind a pointer: refusal 13. One function for all calls, which reads the block where it stands. Proved by a walk.
+// The check of a block behind a pointer: refusal 13. One function for all calls, which reads the block where it stands.
 #![tactic(auto)]
+
 ghost use Rattle.std.specs.Prelude.{◌≡◌};
 ghost use Rattle.marks.specs.Marks.{none, none_to_send};
 ghost use Rattle.checking.specs.Verdicts.{Sound};

@@ -1,5 +1,6 @@
 // The core of a check: the numbers of a block by value, its arrays and the records of its outstanding segments lent.
 #![tactic(auto)]
+
 ghost use Rattle.std.specs.Prelude.{◌≡◌, length};
 ghost use Rattle.control.specs.Views.{arrays, link_of, Whole};
 ghost use Rattle.checking.specs.Verdicts.{Sounds};

@@ -1,6 +1,7 @@
 // The check of a control block in place: refusal 13, after the lent sizes, refusal 7. Numbers by value, lists lent; the slots of each half
 // are marked on the way. The passes over a list have no early exit.
 #![tactic(auto)]
+
 pub mod ahead;
 pub mod flights;
 pub mod full;

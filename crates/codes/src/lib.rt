@@ -1,5 +1,6 @@
 // Numbers for callers in C: answers as 0 or a count, or the refusal's number below zero; settings from plain numbers.
 #![tactic(auto)]
+
 ghost use Rattle.std.specs.Prelude.{◌≡◌, min};
 ghost use Rattle.codes.specs.Codes.{number_code, refusal_code, answer_code, size_code, count_code};
 ghost use Rattle.codes.specs.Codes.{update_code, time_code, time_stored, settings_of};

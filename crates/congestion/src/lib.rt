@@ -1,5 +1,6 @@
 // The congestion window: its growth after acknowledgements, and its fall after losses.
 #![tactic(auto)]
+
 pub mod rules;
 
 // The window in segments, the threshold up to which it grows by one segment a time, and the allowance in bytes (ikcp's cwnd, ssthresh

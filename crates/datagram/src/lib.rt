@@ -1,5 +1,6 @@
 // The walk over a datagram: its check, and its segments one by one.
 #![tactic(auto)]
+
 ghost use Rattle.std.specs.Prelude.{◌≡◌};
 ghost use Rattle.datagram.specs.Datagrams.{verdict, parse, counted, step_at};
 

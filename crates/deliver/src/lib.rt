@@ -1,6 +1,7 @@
 // The message at the front of the ready segments, which are words in a lent array: its size, whether there is room for it, and
 // reading it out.
 #![tactic(auto)]
+
 ghost use Rattle.std.specs.Prelude.{◌≡◌, ◌+◌, ◌≤◌, ◌<◌, length};
 ghost use Rattle.std.proofs.lemmas.List.Edits.{sets};
 ghost use Rattle.session.specs.Reading.{front_count, readable, length_of, joined_in};

@@ -1,6 +1,7 @@
 // Sending a message: its fragments take the lowest free slots of the send pool and are queued, in place. In stream mode the last queued
 // segment is filled first.
 #![tactic(auto)]
+
 ghost use Rattle.std.specs.Prelude.{◌≡◌, Bool, cond, ◌-◌, ◌*◌, ◌<◌, ◌≤◌, min, length, drop};
 ghost use Rattle.protocol.specs.Protocol.{send_slots};
 ghost use Rattle.session.specs.State.{State};

@@ -1,5 +1,6 @@
 // The core of a flush and of an update: the numbers of a block by value, its arrays and the records of its outstanding segments lent.
 #![tactic(auto)]
+
 pub mod parts;
 
 ghost use Rattle.std.specs.Prelude.{◌≡◌, ℕ, List, length};

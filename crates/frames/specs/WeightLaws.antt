@@ -1,23 +1,12 @@
 -- Laws of weighed sums: from the last place to the first, each step doubles what the later places give.
 -- Assumes nothing.
 use Rattle.std.specs.Prelude.{◌≡◌, refl, List, length, get_or}
-use Rattle.std.proofs.Common.{sym, ◌∙◌, add-zero, zero-add, add-suc, ext_get_or, le-ltb}
+use Rattle.std.proofs.Common.{sym, ◌∙◌, add-zero, zero-add, ext_get_or, le-ltb}
 use Rattle.std.proofs.Math.Path.{ap, ap₂}
 use Prim.Native.Nat.{ℕ, zero, suc, ◌+◌, ◌-◌, ◌≤◌, ◌<◌}
 use native.Mathlib.Omega.{arith}
 use Rattle.galois.specs.Field.{plus, double, mul, doubled, power}
-use Rattle.galois.specs.FieldLaws.{
-  plus_comm,
-  plus_assoc,
-  plus_lt,
-  zero_plus,
-  double_plus,
-  double_small,
-  mul_lt,
-  one-mul,
-  double_mul,
-  power_lt,
-}
+use Rattle.galois.specs.FieldLaws.{plus_comm, plus_assoc, plus_lt, double_plus, double_small, mul_lt, one-mul, double_mul, power_lt}
 use Rattle.rows.specs.Rows.{Row, behind, stepped}
 use Rattle.frames.specs.Lists.{listed, total}
 use Rattle.frames.specs.Frames.{weight}

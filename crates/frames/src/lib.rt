@@ -1,5 +1,6 @@
 // Groups of frames: k data frames, each a datagram behind a header of 8 bytes, and two parity frames.
 #![tactic(auto)]
+
 ghost use Rattle.std.specs.Prelude.{◌≡◌};
 ghost use Rattle.frames.specs.Outcomes.{number_of};
 

@@ -1,4 +1,3 @@
 pub mod Field
 pub mod FieldLaws
 pub mod Tables
-pub mod TableLaws

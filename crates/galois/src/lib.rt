@@ -1,5 +1,6 @@
 // The field of 256 elements with the polynomial 0x11D: bytes, added by exclusive or, multiplied by a power table and a logarithm table.
 #![tactic(auto)]
+
 ghost use Rattle.std.specs.Prelude.{◌≡◌};
 ghost use Rattle.galois.specs.Field.{plus, double, mul, power, inverse, LogOf};
 

@@ -1,17 +1,17 @@
 -- The record that is read for a word.
 -- Assumes nothing.
-use mathlib.Core.Path.{◌≡◌, refl, sym, ap, ◌∙◌}
-use mathlib.Core.Bool.{Bool, true, false, cond}
-use mathlib.Core.List.{List, map}
-use Prim.Native.Nat.{ℕ, ◌≤◌, ◌<◌, ◌%◌, ◌^◌, min}
+use mathlib.Core.Path.{◌≡◌, refl, sym, ◌∙◌}
+use mathlib.Core.Bool.{Bool, true, false}
+use mathlib.Core.List.{List}
+use Prim.Native.Nat.{ℕ, ◌≤◌, ◌<◌, ◌%◌, ◌^◌}
 use native.Mathlib.Omega.{arith}
-use borrow.Author.Tests.{ltb-true, ltb-false, lt-ltb, le-ltb}
+use borrow.Author.Tests.{ltb-true, ltb-false}
 use lib.Dec.{ltb}
-use lib.ListN.{length, get_or, take, length-map, length-take, get_or-map, get_or-eq_default}
-use lib.Seq.{get_or-take, length-take-le}
+use lib.ListN.{length, get_or, take, length-take, get_or-eq_default}
+use lib.Seq.{get_or-take}
 use Rattle.protocol.specs.Protocol.{send_slots}
 use Rattle.timing.specs.declared.Record.{Record}
-use Rattle.records.specs.Tables.{blank, slots_in}
+use Rattle.records.specs.Tables.{blank}
 use Rattle.gathering.specs.Reach.{reach}
 
 -- what is read for a word is the record at its slot among the first 128
@@ -25,9 +25,3 @@ reached table word k r room e f = f ∙ go (ltb (word % 256) send_slots) refl
         let past : send_slots ≤ word % 256 = ltb-false _ _ h in
         rw (e, h) (get_or-eq_default table blank (omega arith) ∙ sym
         (get_or-eq_default (take send_slots table) blank (omega (arith, past, length-take send_slots table))))
-
-pub reach_slot : (word s : ℕ) → s ≡ word % 256 → s < send_slots → s ≡ reach word
-reach_slot word s e h = rw (← e, lt-ltb s send_slots h)
-
-pub reach_none : (word s : ℕ) → s ≡ word % 256 → send_slots ≤ s → 18446744073709551615 ≡ reach word
-reach_none word s e h = rw (← e, le-ltb s send_slots h)

@@ -1,6 +1,6 @@
-// The records of the outstanding segments, gathered from the lent table by the words of the block, and put back. A function
-// that has the table is proved by hand; the others are its steps on plain values.
+// The records of the outstanding segments, gathered from the lent table by the words of the block, and put back.
 #![tactic(auto)]
+
 ghost use Rattle.std.specs.Prelude.{◌≡◌, ◌<◌, ◌≤◌, ◌%◌, min, length, get_or, replicate, take};
 ghost use Rattle.protocol.specs.Protocol.{send_slots};
 ghost use Rattle.records.specs.Tables.{slots_in, gathered, padded, scattered};

@@ -1,5 +1,6 @@
 // Taking in a datagram over the block in place: its small structs by value, its lists and the records of the outstanding segments lent.
 #![tactic(auto)]
+
 ghost use Rattle.std.specs.Prelude.{◌≡◌, ℕ, length};
 ghost use Rattle.record_words.specs.RecordWords.{records_in};
 ghost use Rattle.session.specs.Input.{input};

@@ -15,7 +15,7 @@ use Rattle.protocol.specs.Serial.{minus, is_before}
 use Rattle.lists.specs.Orders.{waiting_offset, is_held, ascending}
 use Rattle.lists.specs.OrderLaws.{ascending_first, ascending_held}
 use Rattle.keeping.specs.Pushing.{is_in_window}
-use Rattle.keeping.proofs.Places.{searched, outside}
+use Rattle.keeping.proofs.Places.{searched}
 use Rattle.words.specs.Words.{paired, waiting_at, Placed}
 use Rattle.words.proofs.Pairs.{paired_length, paired_get, blank}
 use Rattle.keeping.specs.Keeping.{is_at, Ascends, Found}
@@ -86,21 +86,3 @@ module _ (next sn : ℕ) (ns : List ℕ) (n i : ℕ) (f : length ns ≡ 128) (fe
       kept = λ h. absurd (omega arith);
       passed = λ h ws e o. sym (searched next sn (take n (paired waiting_at ws ns)) a b ea eb true (sym (is_held_lem ws e o ∙ z)) t);
     }
-
--- it is not in the window, or before rcv_nxt
-pub found_not : (next sn : ℕ) (ns : List ℕ) (n : ℕ) (a b : Bool) → a ≡ is_in_window next sn → b ≡ is_before sn next → a && not b ≡ false
-    → Found next sn ns n 256
-found_not next sn ns n a b ea eb t =
-    record {
-      place = λ h. absurd (omega arith);
-      kept = λ h. absurd (omega arith);
-      passed = λ h ws e o. sym (outside next sn (take n (paired waiting_at ws ns)) a b ea eb t);
-    }
-
-pub not-true : (b : Bool) → not b ≡ true → b ≡ false
-not-true true e = sym e
-not-true false e = refl
-
-pub not-false : (b : Bool) → not b ≡ false → b ≡ true
-not-false true e = refl
-not-false false e = sym e

@@ -5,7 +5,7 @@ use mathlib.Core.Bool.{Bool, true, false, not, ◌&&◌, ◌||◌}
 use mathlib.Core.List.{List, [], ◌∷◌, ◌++◌, map, map-append}
 use Prim.Native.Nat.{ℕ, ◌+◌, ◌≤◌, ◌<◌, ◌^◌}
 use native.Mathlib.Omega.{arith}
-use borrow.Author.Tests.{ltb-true, eqb-true}
+use borrow.Author.Tests.{ltb-true, eqb-true, not-true}
 use lib.Dec.{ltb, eqb}
 use lib.ListN.{length, take, length-take, length-map}
 use lib.Seq.{length-take-le}
@@ -31,7 +31,6 @@ use Rattle.arriving.specs.Arrivals.{ready_list, waiting_list, lists_of, WholeLis
 use Rattle.arriving.proofs.Views.{take_map}
 use Rattle.keeping.specs.Keeping.{Storable, Stored, is_at, Keepable, Kept}
 use Rattle.marks.proofs.Frees.{free_lowest, free_low, free_next}
-use Rattle.keeping.proofs.Finds.{not-true}
 
 -- ---- the slots held, with one more
 
@@ -85,9 +84,6 @@ module _ (l : Receiving) (marks : List ℕ) (k m : ℕ) (s : List ℕ) (start : 
         (insert (waiting_offset l.next) (entry_of h held) (waiting_of l.waiting))
         ≡ advance (plus l.next 1) (held_of l.ready ++ (held ∷ [])) (waiting_of l.waiting)
     raised = next_raised l.next h.sn (held_of l.ready) (waiting_of l.waiting) next_low sn_low z fewer p.settled p.ascends
-
-  pub len_low : h.len < 65536
-  len_low = omega (arith, p.fits, p.mss_low)
 
   -- it is not kept
   pub kept_not : is_kept l h ≡ false → (a : Arrival) → Kept a l m s start h pool marks a l pool k

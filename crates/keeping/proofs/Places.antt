@@ -1,7 +1,7 @@
 -- A push that is new and in the window: how far it is from rcv_nxt, that a slot is free, that there is room among those that wait.
 -- Assumes nothing.
 use mathlib.Core.Path.{◌≡◌, refl, sym, ◌∙◌}
-use mathlib.Core.Bool.{Bool, true, false, not, ◌&&◌, false≢true, true≢false}
+use mathlib.Core.Bool.{Bool, true, false, not, ◌&&◌, false≢true}
 use mathlib.Core.List.{List}
 use Prim.Native.Nat.{ℕ, ◌≤◌, ◌<◌, ◌^◌}
 use native.Mathlib.Omega.{arith}
@@ -47,14 +47,6 @@ module _ (next sn : ℕ) (waiting : List Waiting) (a b : Bool) (e : a ≡ is_in_
       go true false t = refl
       go true true t = absurd (false≢true t)
       go false b t = absurd (false≢true t)
-
-  pub outside : a && not b ≡ false → false ≡ (is_in_window next sn && is_new_in next waiting sn)
-  outside t = rw (← e, ← f) (go a b t)
-    where
-      go : (a b : Bool) → a && not b ≡ false → false ≡ (a && (not b && not (is_held (waiting_offset next) (minus sn next) waiting)))
-      go true false t = absurd (true≢false t)
-      go true true t = refl
-      go false b t = refl
 
 -- ---- a push that is kept
 

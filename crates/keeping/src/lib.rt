@@ -1,6 +1,7 @@
 // A push is kept, the lists of the receiving half in lent arrays. It goes to the lowest free slot: marks are those of the slots held
 // when the call began, and slots are only taken, lowest first, so the search goes on behind the last one taken.
 #![tactic(auto)]
+
 ghost use Rattle.std.specs.Prelude.{◌≡◌, ◌&&◌, ◌≤◌, ◌<◌, eqb, ltb, length};
 ghost use Rattle.protocol.specs.Protocol.{receive_window};
 ghost use Rattle.protocol.specs.Serial.{minus};

@@ -1,5 +1,6 @@
 // The lister's lines, and the whole listing of a datagram.
 #![tactic(auto)]
+
 mod out;
 mod text;
 

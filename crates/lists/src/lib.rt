@@ -1,6 +1,7 @@
 // Segments queued, outstanding, ready and waiting: their types, and in specs/ the lists of them. A list is the front of an array,
 // in list order, up to its count; what stands past the count is not state.
 #![tactic(auto)]
+
 use timing::Record;
 
 // A segment held in a slot of a pool: its slot, its length in bytes and its fragment number.

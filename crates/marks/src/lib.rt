@@ -3,6 +3,7 @@
 // Marking tells whether a slot stands twice, with no early exit. While a call takes slots, lowest first, marks are not updated: the
 // search for the next free slot goes on behind the last one taken.
 #![tactic(auto)]
+
 ghost use Rattle.std.specs.Prelude.{◌≡◌, true, ◌≤◌, ◌<◌, ◌%◌, length};
 ghost use Rattle.slots.specs.Slots.{slots_of, all_below};
 ghost use Rattle.words.specs.Words.{held_in};

@@ -1,14 +1,13 @@
 -- Laws of `Words`: when a word is a number and when not, and that reading and printing numbers undo each other.
 -- Assumes nothing.
-use Rattle.std.specs.Prelude.{◌≡◌, refl, Bool, true, false, not, cond, ◌&&◌, List, [], ◌∷◌, ◌++◌, ℕ, zero, suc, ◌+◌, ◌*◌, ◌-◌, ◌/◌, ◌%◌, ◌≤◌, ◌<◌, leb, ltb, eqb, length, get_or, drop}
-use Rattle.std.proofs.Common.{sym, ◌∙◌, ap, append_assoc, append-nil, add-one, arith, lt-ltb, le-ltb, le-leb, ltb-true, leb-true, ne_eqb, length-append, drop_of_length-le, drop-cons}
+use Rattle.std.specs.Prelude.{◌≡◌, refl, Bool, true, false, not, ◌&&◌, List, [], ◌∷◌, ◌++◌, ℕ, zero, suc, ◌+◌, ◌*◌, ◌-◌, ◌/◌, ◌%◌, ◌≤◌, ◌<◌, leb, ltb, length, get_or, drop}
+use Rattle.std.proofs.Common.{sym, ◌∙◌, ap, append_assoc, append-nil, add-one, arith, lt-ltb, le-ltb, le-leb, leb-true, ne_eqb, drop_of_length-le, drop-cons}
 use Rattle.std.proofs.Math.Bool.{and-false, and_assoc}
 use Rattle.std.proofs.Math.Decide.{dec_lt}
 use Rattle.std.proofs.lemmas.Bool.{lt-leb, eqb-false, not-true}
 use Rattle.notation.specs.Decimal.{digit, decimal, value}
 use Rattle.notation.specs.DecimalLaws.{decimal_low, decimal_more, length_low, length_more, value_decimal, no_leading_zero}
 use Rattle.notation.specs.Words.{is_digit, every, leading_zero, is_decimal, number_of}
-use Rattle.notation.specs.declared.Number.{Number}
 use Rattle.notation.specs.declared.Number.TheVariants.{Of, Malformed}
 
 -- ---- digits

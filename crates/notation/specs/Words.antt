@@ -1,6 +1,6 @@
 -- A word read as a number. Definitions.
 -- Assumes nothing.
-use Rattle.std.specs.Prelude.{Bool, true, false, not, cond, ◌&&◌, List, [], ◌∷◌, ℕ, leb, ltb, eqb, length, get_or}
+use Rattle.std.specs.Prelude.{Bool, true, not, cond, ◌&&◌, List, [], ◌∷◌, ℕ, leb, ltb, eqb, length, get_or}
 use Rattle.notation.specs.Decimal.{value}
 use Rattle.notation.specs.declared.Number.{Number}
 use Rattle.notation.specs.declared.Number.TheVariants.{Of, Malformed}

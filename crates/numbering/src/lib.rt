@@ -1,5 +1,6 @@
 // Queued segments get numbers, in place: their words move behind those of the outstanding segments.
 #![tactic(auto)]
+
 ghost use Rattle.std.specs.Prelude.{◌≡◌, ◌++◌, ◌+◌, ◌≤◌, min, length};
 ghost use Rattle.session.specs.Flushing.{numbered};
 ghost use Rattle.words.specs.Words.{held_in};

@@ -1,5 +1,6 @@
 // Opening a link over the block in place: its numbers alone, since what stands in an array past its count is not state.
 #![tactic(auto)]
+
 ghost use Rattle.control.specs.Views.{Arrays, link_of};
 ghost use Rattle.promises.specs.Parts.{lent_lengths};
 ghost use Rattle.promises.specs.Outcomes.{opens_with};

@@ -1,5 +1,6 @@
 // Segments packed into datagrams, straight into lent output.
 #![tactic(auto)]
+
 ghost use Rattle.std.specs.Prelude.{◌≡◌, ◌+◌, ◌-◌, ◌*◌, ◌≤◌, ◌<◌, length};
 ghost use Rattle.wire.specs.Headers.{encode};
 ghost use Rattle.session.specs.Flushing.{bytes_of_segment, control, data_segment};

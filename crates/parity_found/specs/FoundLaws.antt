@@ -1,127 +1,26 @@
 -- Laws of what is found: lens, datagrams and their lengths.
 -- Assumes nothing.
-use Rattle.std.specs.Prelude.{◌≡◌, refl, ◌⊎◌, Bool, true, false, cond, ◌&&◌, ◌||◌, not, eqb, ltb, leb, length, take, drop, set}
+use Rattle.std.specs.Prelude.{◌≡◌, refl, Bool, true, false, cond, ◌&&◌, eqb, leb, length, take, drop}
 use Rattle.std.proofs.Math.Path.{sym, ap, ap₂}
-use Rattle.std.proofs.Common.{◌∙◌, subst, inl, inr, ⊎_elim, not-suc-le-zero, zero-lt-suc, add_comm, add-zero, zero-add, suc-mul, mod-eq_of_lt, mul-le-mul_right, mul-le-mul_left, le_of_lt, add-one, leb-true, leb-false, eqb-true, ltb-true, ltb-false, lt-ltb, le-ltb, le-leb, eq-eqb, ne_eqb, length-append, length-take, length-drop, length-set, drop_of_length-le, take_all, drop-cons, take-suc, get_or-take, get_or-drop, drop-drop, ext_get_or, get_or-set_same, get_or-set_other}
-use mathlib.Core.List.{List, [], ◌∷◌, ◌++◌, map, append_assoc, append-nil}
+use Rattle.std.proofs.Common.{◌∙◌, subst, not-suc-le-zero, add-one, leb-true, eqb-true, le-leb, length-take, take_all, get_or-take, ext_get_or}
+use mathlib.Core.List.{List, [], ◌∷◌, ◌++◌}
 use Prim.Native.Nat.{ℕ, zero, suc, ◌+◌, ◌-◌, ◌*◌, ◌/◌, ◌%◌, ◌≤◌, ◌<◌, max}
-use Rattle.std.proofs.Math.Nat.{mul-add-mod_self_right, add-mul-div_right, div-eq_of_lt}
 use native.Mathlib.Omega.{arith}
 use Rattle.std.proofs.lemmas.Bool.{eqb-false, lt-leb}
-use Rattle.std.proofs.Math.ListN.{get_or, get_or-append, get_or-eq_default}
-use Rattle.std.proofs.lemmas.List.Edits.{sets}
-use Rattle.std.proofs.Math.Seq.{length-sets, get_or-append_seam}
-use Rattle.wire.specs.LittleEndian.{bytes_of, number_at, AllBytes}
-use Rattle.wire.specs.LittleEndianLaws.{length_bytes_of}
-use Rattle.wire.specs.Stores.{sets_append}
-use Rattle.galois.specs.Field.{plus, double, mul, power, inverse}
-use Rattle.galois.specs.FieldLaws.{
-  plus_zero,
-  zero_plus,
-  plus_self,
-  plus_swap,
-  plus_comm,
-  plus_assoc,
-  plus_twice,
-  plus_lt,
-  mul_lt,
-  mul_zero,
-  one-mul,
-  mul_plus,
-  mul_plus_left,
-  power_lt,
-}
-use Rattle.galois.specs.TableLaws.{power_positive, power_differs, undo_mul}
-use Rattle.frames.specs.declared.Refusal.{Refusal}
-use Rattle.frames.specs.declared.Refusal.TheVariants.{ShortPart, SettingOutOfRange, NotAGroup, TooFewFrames, LateGroup}
-use Rattle.frames.specs.declared.Answer.{Answer}
-use Rattle.frames.specs.declared.Answer.TheVariants.{Written, Refused}
-use Rattle.frames.specs.Lists.{listed, joined, lengths_of, parts, add_up, largest, total, count, other, every, among, different}
-use Rattle.frames.specs.Frames.{shard, longest, weight, parity_byte, parity_shard, type_at, shard_at, frame, frame_at, group}
-use Rattle.frames.specs.Outcomes.{
-  Outcome,
-  refused,
-  wrote,
-  answer_of,
-  bytes_after,
-  lengths_after,
-  Gives,
-  settings_ok,
-  lent_ok,
-  length_ok,
-  lengths_ok,
-  groups_end,
-  write_of,
-}
-use Rattle.frames.specs.Reading.{
-  sequence_of,
-  group_of,
-  place_of,
-  frame_ok,
-  first_group,
-  held_shard,
-  has,
-  rest,
-  solved,
-  byte_at,
-  len_at,
-  datagram_at,
-  found,
-  same,
-  holds,
-  read_group,
-  read_frames,
-  read_of,
-}
-use Rattle.frames.specs.PlaceLaws.{
-  length_listed,
-  get_d_listed,
-  listed_same,
-  listed_next,
-  listed_get_d,
-  listed_bytes,
-  total_same,
-  total_plus,
-  total_none,
-  total_one,
-  total_two,
-  total_next,
-  count_none,
-  count_three,
-  other_none,
-  other_some,
-  Lost,
-}
-use Rattle.frames.specs.PartLaws.{length_part, packed_step, packed_short, packed_end, lengths_step, lengths_bad, lengths_end, largest_step, largest_end, length_parts, part_at, add_up_next, add_up_le, joined_append, joined_next, length_lengths, lengths_next, stored, noted, lengths_parts, get_d_largest, length_joined_next, largest_le, largest_ge, size_le}
-use Rattle.frames.specs.FrameLaws.{
-  length_shard,
-  parity_at,
-  shard_at_data,
-  shard_at_parity,
-  seq_of,
-  type_of,
-  len_of,
-  shard_of,
-  length_frame,
-  len_shard,
-  two_bytes,
-  behind,
-  shard_bytes,
-  shard_low,
-  shard_high,
-  shard_byte_lem,
-  type_lt,
-  length_parity_shard,
-  length_frame_at,
-  drop_frame_at,
-  type_at_lem,
-  len_at_lem,
-}
+use Rattle.std.proofs.Math.ListN.{get_or}
+use Rattle.wire.specs.LittleEndian.{number_at}
+use Rattle.frames.specs.Lists.{listed, lengths_of, largest}
+use Rattle.frames.specs.Frames.{shard}
+use Rattle.frames.specs.Outcomes.{length_ok, lengths_ok}
+use Rattle.frames.specs.Reading.{byte_at, len_at, datagram_at, found}
+use Rattle.frames.specs.PlaceLaws.{length_listed, get_d_listed}
+use Rattle.frames.specs.PartLaws.{length_part, lengths_next}
+use Rattle.frames.specs.FrameLaws.{length_shard, shard_low, shard_high, shard_byte_lem}
 use Rattle.frames.specs.OutcomeLaws.{and_left, and_right}
 use Rattle.parity_scan.specs.Held.{shard_in}
 use Rattle.parity_found.specs.declared.Group.{Group}
 use Rattle.parity_found.specs.ReadyLaws.{whole_sized, len_sized}
-use Rattle.parity_found.specs.Ready.{Ready, byte_in, len_in, datagram_in, found_in, Whole}
+use Rattle.parity_found.specs.Ready.{Ready, len_in, datagram_in, found_in, Whole}
 
 -- ---- lengths
 

@@ -1,18 +1,18 @@
 -- Laws of a group whose shards are held or restored: which place is which, and the bytes of each.
 -- Assumes nothing.
-use Rattle.std.specs.Prelude.{◌≡◌, refl, Bool, true, false, cond, ◌||◌, List, eqb, ltb, take, drop}
+use Rattle.std.specs.Prelude.{◌≡◌, refl, Bool, true, false, cond, ◌||◌, List, eqb, take, drop}
 use Rattle.std.proofs.Math.Path.{sym, ap, ap₂}
-use Rattle.std.proofs.Common.{◌∙◌, subst, not-suc-le-zero}
-use Prim.Native.Nat.{ℕ, zero, suc, ◌+◌, ◌-◌, ◌*◌, ◌≤◌, ◌<◌}
+use Rattle.std.proofs.Common.{◌∙◌, subst}
+use Prim.Native.Nat.{ℕ, zero, suc, ◌+◌, ◌*◌, ◌≤◌, ◌<◌}
 use native.Mathlib.Omega.{arith}
-use borrow.Author.Tests.{eqb-true, eqb-false, ne_eqb, ltb-true, ltb-false, lt-ltb}
+use borrow.Author.Tests.{eqb-true, eqb-false, ne_eqb, lt-ltb}
 use Rattle.std.proofs.Math.ListN.{length, get_or}
 use Rattle.wire.specs.LittleEndian.{number_at}
-use Rattle.frames.specs.Lists.{count, other}
+use Rattle.frames.specs.Lists.{other}
 use Rattle.frames.specs.Reading.{has, solved, byte_at, len_at}
 use Rattle.frames.specs.PlaceLaws.{count_three, other_none, other_some, Lost}
 use Rattle.frames.specs.PartLaws.{part_bytes}
-use Rattle.parity_scan.specs.Held.{shard_in, sized, Inside}
+use Rattle.parity_scan.specs.Held.{shard_in, sized}
 use Rattle.parity_scan.specs.HeldLaws.{length_shard_in, has_sized}
 use Rattle.parity_found.specs.declared.Group.{Group}
 use Rattle.parity_found.specs.Ready.{byte_in, len_in, Ready, Whole}

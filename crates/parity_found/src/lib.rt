@@ -1,5 +1,6 @@
 // The data shards of a group, held or restored.
 #![tactic(auto)]
+
 ghost use Rattle.std.specs.Prelude.{◌≡◌, true, ◌<◌, length};
 ghost use Rattle.frames.specs.Lists.{lengths_of, largest};
 ghost use Rattle.frames.specs.Frames.{shard};

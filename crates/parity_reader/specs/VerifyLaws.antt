@@ -1,108 +1,29 @@
 -- Steps of the comparison of what is found with the frames given.
 -- Assumes nothing.
-use Rattle.std.specs.Prelude.{◌≡◌, refl, ◌⊎◌, Bool, true, false, cond, ◌&&◌, ◌||◌, not, List, [], ◌∷◌, ◌++◌, map, ℕ, zero, suc, ◌+◌, ◌-◌, ◌*◌, ◌/◌, ◌%◌, ◌≤◌, ◌<◌, max, eqb, ltb, leb, length, get_or, take, drop, set}
-use Rattle.std.proofs.Common.{sym, ap, ap₂, ◌∙◌, subst, inl, inr, ⊎_elim, append_assoc, append-nil, div-add-mod', add-mul, not-suc-le-zero, zero-lt-suc, add_comm, add-zero, zero-add, suc-mul, mod-eq_of_lt, mul-le-mul_right, mul-le-mul_left, le_of_lt, add-one, arith, leb-true, leb-false, eqb-true, ltb-true, ltb-false, lt-ltb, le-ltb, le-leb, eq-eqb, ne_eqb, length-append, length-take, length-drop, length-set, take-append-drop, drop_of_length-le, take_at, drop-cons, take-suc, take_all, get_or-take, get_or-drop, drop-drop, ext_get_or, get_or-set_same, get_or-set_other}
-use Rattle.std.proofs.Math.Nat.{mul-add-mod_self_right, add-mul-div_right, div-eq_of_lt}
-use Rattle.std.proofs.lemmas.Bool.{eqb-false, lt-leb}
-use Rattle.std.proofs.Math.ListN.{get_or-append, get_or-eq_default}
-use Rattle.std.proofs.lemmas.List.Edits.{sets}
-use Rattle.std.proofs.Math.Seq.{length-sets, get_or-append_seam}
+use Rattle.std.specs.Prelude.{◌≡◌, refl, Bool, true, false, cond, List, [], ◌∷◌, ◌++◌, ℕ, zero, suc, ◌+◌, ◌-◌, ◌*◌, ◌%◌, ◌≤◌, ◌<◌, eqb, ltb, length, get_or, take, drop}
+use Rattle.std.proofs.Common.{sym, ap, ap₂, ◌∙◌, subst, div-add-mod', not-suc-le-zero, add-one, arith, ltb-true, ltb-false, eq-eqb, ne_eqb, length-append, take-append-drop, drop_of_length-le, take_at, drop-cons, drop-drop}
+use Rattle.std.proofs.Math.ListN.{get_or-eq_default}
 use Rattle.wire.specs.LittleEndian.{bytes_of, number_at, AllBytes}
-use Rattle.wire.specs.LittleEndianLaws.{length_bytes_of, bytes_of_number}
-use Rattle.wire.specs.Stores.{sets_append}
-use Rattle.galois.specs.Field.{plus, double, mul, power, inverse}
-use Rattle.galois.specs.FieldLaws.{
-  plus_zero,
-  zero_plus,
-  plus_self,
-  plus_swap,
-  plus_comm,
-  plus_assoc,
-  plus_twice,
-  plus_lt,
-  mul_lt,
-  mul_zero,
-  one-mul,
-  mul_plus,
-  mul_plus_left,
-  power_lt,
-}
-use Rattle.galois.specs.TableLaws.{power_positive, power_differs, undo_mul}
-use Rattle.frames.specs.declared.Refusal.{Refusal}
-use Rattle.frames.specs.declared.Refusal.TheVariants.{ShortPart, SettingOutOfRange, NotAGroup, TooFewFrames, LateGroup}
-use Rattle.frames.specs.declared.Answer.{Answer}
-use Rattle.frames.specs.declared.Answer.TheVariants.{Written, Refused}
-use Rattle.frames.specs.Lists.{listed, joined, lengths_of, parts, add_up, largest, total, count, other, every, among, different}
-use Rattle.frames.specs.Frames.{shard, longest, weight, parity_byte, parity_shard, type_at, shard_at, frame, frame_at, group}
-use Rattle.frames.specs.Outcomes.{
-  Outcome,
-  refused,
-  wrote,
-  answer_of,
-  bytes_after,
-  lengths_after,
-  Gives,
-  settings_ok,
-  lent_ok,
-  length_ok,
-  lengths_ok,
-  groups_end,
-  write_of,
-}
-use Rattle.frames.specs.Reading.{
-  sequence_of,
-  group_of,
-  place_of,
-  frame_ok,
-  first_group,
-  held_shard,
-  has,
-  rest,
-  solved,
-  byte_at,
-  len_at,
-  datagram_at,
-  found,
-  same,
-  holds,
-  read_group,
-  read_frames,
-  read_of,
-}
-use Rattle.frames.specs.PlaceLaws.{
-  length_listed,
-  get_d_listed,
-  listed_same,
-  listed_next,
-  listed_get_d,
-  listed_bytes,
-  total_same,
-  total_plus,
-  total_none,
-  total_one,
-  total_two,
-  total_next,
-  count_none,
-  count_three,
-  other_none,
-  other_some,
-  Lost,
-}
-use Rattle.frames.specs.PartLaws.{size_le, part_bytes, packed_step, packed_short, packed_end, lengths_step, lengths_bad, lengths_end, largest_step, largest_end, length_parts, part_at, add_up_next, add_up_le, length_part, joined_append, joined_next, length_lengths, lengths_next, stored, noted, lengths_parts, get_d_largest, length_joined_next, largest_le, largest_ge}
-use Rattle.frames.specs.FrameLaws.{length_parity_shard, length_shard, parity_at, shard_at_data, shard_at_parity, seq_of, type_of, len_of, shard_of, length_frame, len_shard, two_bytes, shard_bytes, shard_low, shard_high, shard_byte_lem, type_lt, length_frame_at, drop_frame_at, type_at_lem, len_at_lem}
-use Rattle.frames.specs.OutcomeLaws.{add_up_most, and_left, and_right, same_self}
+use Rattle.wire.specs.LittleEndianLaws.{bytes_of_number}
+use Rattle.galois.specs.Field.{plus, mul, power, inverse}
+use Rattle.galois.specs.FieldLaws.{plus_lt, mul_lt}
+use Rattle.frames.specs.Lists.{listed, lengths_of, parts, add_up, largest, total, other, every}
+use Rattle.frames.specs.Frames.{shard, longest, weight, parity_byte, parity_shard, type_at, shard_at, frame, frame_at}
+use Rattle.frames.specs.Outcomes.{lengths_ok}
+use Rattle.frames.specs.Reading.{group_of, place_of, frame_ok, has, rest, solved, byte_at, datagram_at, found, same, holds}
+use Rattle.frames.specs.PlaceLaws.{length_listed, get_d_listed}
+use Rattle.frames.specs.PartLaws.{size_le, part_bytes, length_parts, part_at, add_up_next, add_up_le, length_part}
+use Rattle.frames.specs.FrameLaws.{length_parity_shard, shard_at_data, shard_at_parity, shard_bytes}
+use Rattle.frames.specs.OutcomeLaws.{add_up_most, same_self}
 use Rattle.frames.specs.WeightLaws.{tail, row_listed, row_same, steps_none, steps_next, steps_done, added_from_0}
 use Rattle.rows.specs.Rows.{Row, behind, stepped}
 use Rattle.recovery.specs.ReadingLaws.{Passes, passes, every_first}
 use Rattle.parity_scan.specs.declared.Held.{Held}
-use Rattle.parity_scan.specs.declared.Scanned.{Scanned}
-use Rattle.parity_scan.specs.Held.{shard_in, sized, Inside, Gathered, Scans}
-use Rattle.parity_scan.specs.HeldLaws.{has_sized, length_shard_in}
+use Rattle.parity_scan.specs.Held.{shard_in}
 use Rattle.parity_scan.specs.ScanLaws.{drop_take, every_cons, every_stop}
-use Rattle.parity_restore.specs.Restored.{Within, Restored}
 use Rattle.parity_found.specs.declared.Group.{Group}
-use Rattle.parity_found.specs.Ready.{byte_in, len_in, datagram_in, found_in, Ready}
-use Rattle.parity_found.specs.FoundLaws.{length_datagram, found_at, length_found, lens_least, lens_most, itself}
+use Rattle.parity_found.specs.Ready.{byte_in, len_in, datagram_in, found_in}
+use Rattle.parity_found.specs.FoundLaws.{found_at, length_found}
 use Rattle.parity_restore.specs.RestoreLaws.{rest_small}
 
 -- ---- lists compared

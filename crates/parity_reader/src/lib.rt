@@ -1,5 +1,6 @@
 // The reader of a group: from frames in any order, the k datagrams by place.
 #![tactic(auto)]
+
 mod output;
 mod verify;
 

@@ -1,34 +1,22 @@
 -- Steps of restoring what is lost.
 -- Assumes nothing.
-use Rattle.std.specs.Prelude.{◌≡◌, refl, Bool, true, false, ◌||◌, List, ℕ, zero, suc, ◌+◌, ◌-◌, ◌≤◌, ◌<◌, eqb, ltb, length, get_or, take, drop}
-use Rattle.std.proofs.Common.{sym, ◌∙◌, add-one, arith, lt-ltb, le-ltb, eq-eqb, ne_eqb}
+use Rattle.std.specs.Prelude.{◌≡◌, refl, Bool, true, false, ◌||◌, List, ℕ, zero, suc, ◌+◌, ◌≤◌, ◌<◌, eqb, length, get_or}
+use Rattle.std.proofs.Common.{sym, ◌∙◌, add-one, arith, ne_eqb}
 use Rattle.std.proofs.Math.Path.{ap, ap₂}
 use Rattle.wire.specs.LittleEndian.{AllBytes}
 use Rattle.galois.specs.Field.{plus, mul, power, inverse}
-use Rattle.galois.specs.FieldLaws.{
-  plus_zero,
-  zero_plus,
-  plus_self,
-  plus_comm,
-  plus_assoc,
-  plus_twice,
-  plus_lt,
-  mul_lt,
-  mul_plus,
-  mul_plus_left,
-  power_lt,
-}
-use Rattle.galois.specs.TableLaws.{power_differs, undo_mul}
+use Rattle.galois.specs.FieldLaws.{plus_zero, plus_comm, plus_assoc, plus_twice, plus_lt, mul_lt, mul_plus, mul_plus_left, power_lt}
+use Rattle.galois.proofs.TableLaws.{power_differs, undo_mul}
 use Rattle.rows.specs.Rows.{Row, behind, stepped}
 use Rattle.frames.specs.Lists.{total, other}
 use Rattle.frames.specs.Frames.{weight}
-use Rattle.frames.specs.Reading.{has, rest, solved}
+use Rattle.frames.specs.Reading.{rest, solved}
 use Rattle.frames.specs.PartLaws.{part_bytes}
 use Rattle.frames.specs.PlaceLaws.{other_some}
 use Rattle.frames.specs.WeightLaws.{tail, added_from_0, steps_none, steps_next, steps_done}
 use Rattle.parity_scan.specs.declared.Held.{Held}
-use Rattle.parity_scan.specs.Held.{shard_in, sized, Inside}
-use Rattle.parity_scan.specs.HeldLaws.{has_sized, sized_true, sized_false}
+use Rattle.parity_scan.specs.Held.{shard_in, Inside}
+use Rattle.parity_scan.specs.HeldLaws.{sized_true, sized_false}
 
 -- ---- the rest of a parity, from the last place to the first
 

@@ -1,5 +1,6 @@
 // The data shards that are lost, at most two, from those that are held.
 #![tactic(auto)]
+
 ghost use Rattle.std.specs.Prelude.{◌≡◌, ◌+◌, ◌≤◌, ◌<◌, length, get_or};
 ghost use Rattle.galois.specs.Field.{plus};
 ghost use Rattle.rows.specs.Rows.{Row};

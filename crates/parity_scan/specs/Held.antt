@@ -1,7 +1,7 @@
 -- What is held of a group: for each place, where the shard of its first frame lies among the packed frames, and its size, 0 for none.
 -- Definitions.
 -- Assumes nothing.
-use Rattle.std.specs.Prelude.{◌≡◌, Bool, true, false, cond, List, ℕ, ◌+◌, ◌≤◌, ◌<◌, ltb, length, get_or, take, drop, set}
+use Rattle.std.specs.Prelude.{◌≡◌, Bool, true, cond, List, ℕ, ◌+◌, ◌≤◌, ltb, length, get_or, take, drop, set}
 use Rattle.frames.specs.Lists.{parts, every}
 use Rattle.frames.specs.Reading.{frame_ok, held_shard}
 use Rattle.parity_scan.specs.declared.Held.{Held}

@@ -1,5 +1,6 @@
 // The frames given to the reader: each checked by itself, and where the shard of each place is held.
 #![tactic(auto)]
+
 ghost use Rattle.std.specs.Prelude.{◌≡◌, ◌+◌, ◌≤◌, ◌<◌, length, take, drop};
 ghost use Rattle.wire.specs.LittleEndian.{number_at};
 ghost use Rattle.frames.specs.Lists.{add_up, parts, count};

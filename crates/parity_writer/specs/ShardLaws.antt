@@ -1,6 +1,6 @@
 -- Steps of the parity shards: a data shard added to a row, and the row from the last place to the first.
 -- Assumes nothing.
-use Rattle.std.specs.Prelude.{◌≡◌, refl, get_or, take, drop, set}
+use Rattle.std.specs.Prelude.{◌≡◌, get_or, take, drop, set}
 use Rattle.std.proofs.Common.{sym, ◌∙◌, le-ltb}
 use Rattle.std.proofs.Math.Path.{ap, ap₂}
 use mathlib.Core.List.{List, []}

@@ -1,5 +1,6 @@
 // The writer of a group: k data frames and two parity frames.
 #![tactic(auto)]
+
 mod data;
 mod shards;
 

@@ -1,5 +1,6 @@
 // What each command of a script does, and its answer as text.
 #![tactic(auto)]
+
 ghost use Rattle.std.specs.Prelude.{◌≡◌, min, take, set, ◌++◌};
 ghost use Rattle.notation.specs.Ascii.{ascii};
 ghost use Rattle.transcript.specs.Lines.{bytes_line, refusal_line, answer_line, count_line, datagram_lines, state_line, held_line};

@@ -1,6 +1,7 @@
 // Reading a message, telling its size, and showing its first segment: the block's numbers by value, its lists and the other parts lent.
 // Each is given whether the block is sound and whether the records of its outstanding segments fit, and checks 7, then 13, then its own.
 #![tactic(auto)]
+
 ghost use Rattle.std.specs.Prelude.{◌≡◌, ◌+◌, ◌*◌, ◌≤◌, ◌<◌, ◌^◌, length, take, drop};
 ghost use Rattle.protocol.specs.Protocol.{receive_slots};
 ghost use Rattle.words.specs.Words.{held_in};
@@ -242,7 +243,7 @@ pub fn locate(
 // The part of the pool at a place.
 pub fn part_at<'a>(pool: &'a [u8], place: Place) -> &'a [u8]
     requires { place.start + place.count ≤ length pool.now }
-    ensures { LiesAt place.start pool.entry.ptr result.ref_ptr
+    ensures { LiesAt place.start pool.entry.ref_ptr result.ref_ptr
         × (result.now ≡ take place.count (drop place.start pool.now)) }
 {
     let start = place.start;
@@ -280,7 +281,7 @@ pub fn show<'a>(
         (link_of settings flight arrival clock (arrays queued.now outstanding.now transmissions.now
         ready.now waiting.now waiting_numbers.now))
         records acks.now (lent_lengths table send_pool.now receive_pool.now acks.now))
-        receive_pool.entry.ptr receive_pool.now result.ref_ptr result.now) }
+        receive_pool.entry.ref_ptr receive_pool.now result.ref_ptr result.now) }
 {
     let place = locate(
         settings,

@@ -11,7 +11,7 @@ use Rattle.session.specs.Input.{heard_by_receiving}
 use Rattle.control.specs.Views.{is_set}
 use Rattle.control.specs.declared.Arrival.{Arrival}
 use Rattle.arriving.specs.Arrivals.{lists_of, WholeLists}
-use Rattle.keeping.specs.Keeping.{Keepable, Kept}
+use Rattle.keeping.specs.Keeping.{Kept}
 use Rattle.receive.specs.Halves.{Half, half_of, receiver_of, segment_at, Sound, HalfIs}
 use Rattle.receive.specs.Pushes.{Noted, Marked, Pushable, Heard}
 use Rattle.receive.proofs.Steps.{pushed_is, heard_other}
@@ -21,23 +21,6 @@ with_noted a n = record { expected = a.expected; tell = a.tell; ready = a.ready;
 
 module _ (a : Arrival) (r w ns marks : List ℕ) (k m : ℕ) (s : List ℕ) (start : ℕ) (h : Header) (pool acks : List ℕ)
     (p : Pushable (half_of a r w ns) marks k m s start h pool acks) where
-  -- what keeping asks
-  pub keepable : Keepable (lists_of a r w ns) marks k m s start h pool
-  keepable =
-      let u = p.sound in
-      record {
-        ready = u.ready;
-        waiting = u.waiting;
-        ascends = u.ascends;
-        settled = u.settled;
-        marked = p.marked.whole;
-        free = p.marked.free;
-        inside = p.inside;
-        fits = p.fits;
-        slots = u.slots;
-        mss_low = u.mss_low;
-      }
-
   -- what it leaves; the whole arrays say which they are
   pub heard : a.expected < 2 ^ 32 → h.sn < 2 ^ 32 → (n : ℕ) (acks' : List ℕ) → Noted a.expected h acks a.acks acks' n
       → (x : Arrival) (r' w' ns' : List ℕ) → WholeLists r' w' ns' → (pool' : List ℕ) (k' : ℕ)

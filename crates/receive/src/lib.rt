@@ -1,6 +1,7 @@
 // The receiving half hears the segments of a datagram that was accepted, its lists in lent arrays: acknowledgements are noted,
 // segments are kept and become ready, a tell is wanted.
 #![tactic(auto)]
+
 ghost use Rattle.std.specs.Prelude.{◌≡◌, ◌||◌, ℕ, ◌≤◌, eqb, length};
 ghost use Rattle.protocol.specs.Ranges.{mss};
 ghost use Rattle.datagram.specs.StepLaws.{Begun};

@@ -1,5 +1,6 @@
 // The records of the outstanding segments as numbers, so that they can be lent and changed in place: four words a record, in list order.
 #![tactic(auto)]
+
 ghost use Rattle.std.specs.Prelude.{◌≡◌, ◌<◌, length, get_or, set, replicate};
 ghost use Rattle.records.specs.Tables.{blank};
 ghost use Rattle.record_words.specs.RecordWords.{records_in};

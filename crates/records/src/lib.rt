@@ -1,5 +1,6 @@
 // The lent table of records, one for each send slot: its length, and one record read or replaced. Proved by hand.
 #![tactic(auto)]
+
 ghost use Rattle.std.specs.Prelude.{◌≡◌, length, get_or, set};
 ghost use Rattle.records.specs.Tables.{blank};
 

@@ -21,7 +21,7 @@ use Rattle.galois.specs.FieldLaws.{
   mul_plus_left,
   power_lt,
 }
-use Rattle.galois.specs.TableLaws.{power_positive, power_differs, undo_mul}
+use Rattle.galois.proofs.TableLaws.{power_positive, power_differs, undo_mul}
 use Rattle.frames.specs.Lists.{total, count, other}
 use Rattle.frames.specs.Frames.{shard, weight, parity_byte, shard_at}
 use Rattle.frames.specs.Reading.{has, rest, solved, byte_at}

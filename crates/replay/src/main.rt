@@ -1,10 +1,12 @@
 // Plays a script of link calls on standard input, and writes the answers.
 #![tactic(auto)]
-ghost use Rattle.std.specs.Prelude.{◌≡◌, ◌+◌, ◌≤◌, length, drop};
+
+ghost use Rattle.std.specs.Prelude.{◌≡◌, ◌+◌, ◌≤◌, IfOk, length, drop};
 ghost use Rattle.script.specs.Commands.{first_line};
 
 use bench::Bench;
-use libc::{STDIN_FILENO, STDOUT_FILENO};
+use std::io;
+use std::io::{Print, Read};
 
 const NEWLINE: u8 = 10;
 
@@ -35,14 +37,30 @@ fn line_end(script: &[u8], from: usize) -> usize
     i
 }
 
+// Reads until `room` is full or the input ends, and answers how many bytes were put at the start of `room`.
+fn read_full(input: &mut impl Read, room: &mut [u8]) -> io::Result<usize>
+    ensures { IfOk result (λ n. n ≤ length room.new) }
+{
+    let mut n: usize = 0;
+    while n < room.len() {
+        let more = input.read(&mut room[n..])?;
+        if more == 0 {
+            return Ok(n);
+        }
+        n += more;
+    }
+    Ok(n)
+}
+
 // Writes the first `len` bytes of a text.
-fn write(text: &[u8], len: usize) {
+fn write(rt: &impl Print, text: &[u8], len: usize) -> io::Result<()> {
     let n = bench_calls::front(len, text);
-    io::write_all(STDOUT_FILENO, &text[..n]);
+    rt.write_all(&text[..n])
 }
 
 // Plays the line between `from` and `end`, and writes its answer.
 fn turn(
+    rt: &impl Print,
     bench: Bench,
     script: &[u8],
     from: usize,
@@ -52,15 +70,15 @@ fn turn(
     acks: &mut [u32; ACKS],
     bytes: &mut [u8; BYTES],
     text: &mut [u8; TEXT],
-) -> Bench {
+) -> io::Result<Bench> {
     let command = playing::line_of(script, from, end, bytes);
     let played = playing::play(bench, command, send_pool, receive_pool, acks, bytes, text);
-    write(text, played.len);
-    played.bench
+    write(rt, text, played.len)?;
+    Ok(played.bench)
 }
 
 // Plays each line of a script in turn. A line whose newline is missing is malformed.
-fn run(script: &[u8])
+fn run(rt: &impl Print, script: &[u8]) -> io::Result<()>
     requires { length script.now ≤ 1048576 }
 {
     let mut bench = Bench::new();
@@ -73,6 +91,7 @@ fn run(script: &[u8])
     while from < script.len() {
         let end = line_end(script, from);
         bench = turn(
+            rt,
             bench,
             script,
             from,
@@ -82,26 +101,26 @@ fn run(script: &[u8])
             &mut acks,
             &mut bytes,
             &mut text,
-        );
+        )?;
         from = end + 1;
     }
+    Ok(())
 }
 
 // Reads a script into `room`, which has one byte more than the longest script, and plays it.
-fn start(room: &mut [u8]) {
-    let n = io::read_full(STDIN_FILENO, room);
+fn start(rt: &HostRuntime, room: &mut [u8]) -> io::Result<()> {
+    let n = read_full(&mut rt.stdin(), room)?;
     if script::SCRIPT_MOST < n {
-        io::write_all(STDOUT_FILENO, b"too long\n");
-        return;
+        return rt.write_all(b"too long\n");
     }
-    run(&room[..n]);
+    run(rt, &room[..n])
 }
 
-fn start_in(room: &mut [u8; script::SCRIPT_MOST + 1]) {
-    start(room);
+fn start_in(rt: &HostRuntime, room: &mut [u8; script::SCRIPT_MOST + 1]) -> io::Result<()> {
+    start(rt, room)
 }
 
-fn main() {
+fn main(rt: HostRuntime) -> io::Result<()> {
     let mut room = [0u8; script::SCRIPT_MOST + 1];
-    start_in(&mut room);
+    start_in(&rt, &mut room)
 }

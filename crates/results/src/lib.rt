@@ -1,5 +1,6 @@
 // The results of the cores, taken apart for the public calls: structs and records to be stored, and the number that C gets.
 #![tactic(auto)]
+
 ghost use Rattle.std.specs.Prelude.{◌≡◌, true, false};
 ghost use Rattle.codes.specs.Codes.{answer_code, count_code, update_code};
 ghost use Rattle.results.specs.PlaceCodes.{place_code, place_start};

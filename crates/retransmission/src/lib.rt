@@ -1,5 +1,6 @@
 // When an outstanding segment is transmitted, and what a flush or a skip leaves of its record.
 #![tactic(auto)]
+
 mod number;
 pub mod outstanding;
 

@@ -1,5 +1,6 @@
 // Rows of bytes, added and multiplied byte by byte in the field of 256 elements.
 #![tactic(auto)]
+
 ghost use Rattle.std.specs.Prelude.{◌≡◌, ℕ, ◌+◌, ◌≤◌, ◌<◌, length, get_or};
 ghost use Rattle.galois.specs.Field.{plus, double, mul};
 ghost use Rattle.rows.specs.Rows.{Row, behind, stepped};

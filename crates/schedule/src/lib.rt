@@ -1,5 +1,6 @@
 // When a link is to be called: the schedule that updates keep, and the time that a check names.
 #![tactic(auto)]
+
 pub mod times;
 
 // The schedule: the next flush time, and whether an update has been made.

@@ -1,41 +1,19 @@
 -- Laws of `Commands`: words and names letter by letter, and numbers word by word.
 -- Assumes nothing.
-use Rattle.std.specs.Prelude.{◌≡◌, refl, Bool, true, false, cond, ◌||◌, ◌⊎◌, List, [], ◌∷◌, ◌++◌, ℕ, zero, suc, ◌+◌, ◌*◌, ◌-◌, ◌≤◌, ◌<◌, leb, eqb, length, take, drop, set}
-use Rattle.std.proofs.Common.{sym, ap, ◌∙◌, inl, inr, append_assoc, append-nil, arith, length-append, length-drop, drop_of_length-le, drop-cons, take_all, drop-drop, take-suc-set, length-take-le}
+use Rattle.std.specs.Prelude.{◌≡◌, refl, Bool, true, false, cond, ◌||◌, List, [], ◌∷◌, ◌++◌, ℕ, suc, ◌+◌, ◌*◌, ◌-◌, ◌≤◌, ◌<◌, leb, eqb, length, take, drop}
+use Rattle.std.proofs.Common.{sym, ap, ◌∙◌, inl, inr, append_assoc, append-nil, arith, length-append, length-drop, drop_of_length-le, drop-cons, take_all, drop-drop, length-take-le}
 use Rattle.std.proofs.Math.Bool.{or-true}
 use Rattle.std.proofs.Math.Option.{Option, none, some}
 use Rattle.std.proofs.Math.Decide.{dec_le}
 use Rattle.std.proofs.Math.Numerals.{add-one}
-use borrow.Author.Tests.{lt-ltb, le-leb, lt-leb, eqb-true, eqb-false, eq-eqb, ne_eqb}
+use borrow.Author.Tests.{le-leb, lt-leb, eq-eqb, ne_eqb}
 use Rattle.std.proofs.Math.ListN.{get_or}
 use types.Run.{OneOf}
 use Rattle.notation.specs.Words.{number_of}
-use Rattle.notation.specs.declared.Number.{Number}
 use Rattle.notation.specs.declared.Number.TheVariants as number
-use Rattle.notation.specs.declared.Bytes.{Bytes}
 use Rattle.notation.specs.declared.Bytes.TheVariants as bytes
 use Rattle.script.specs.declared.Command.TheVariants.{Malformed}
-use Rattle.script.specs.Commands.{
-  is_one_of,
-  field_most,
-  up_to,
-  word,
-  behind_word,
-  on_first,
-  words,
-  arguments,
-  one_more,
-  numbers_of,
-  letters,
-  of_one,
-  of_two,
-  of_four,
-  of_five,
-  of_six,
-  of_seven,
-  of_numbers,
-  with_numbers,
-}
+use Rattle.script.specs.Commands.{is_one_of, up_to, word, behind_word, on_first, words, arguments, one_more, numbers_of, letters, of_one, of_two, of_four, of_five, of_six, of_seven, of_numbers, with_numbers}
 use Rattle.script.specs.Reading.{few}
 
 -- ---- words

@@ -1,5 +1,6 @@
 // A line of a replay script read as a command. Words are parted by one space; numbers are decimal, bytes are hex.
 #![tactic(auto)]
+
 mod numbers;
 mod words;
 

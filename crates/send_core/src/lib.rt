@@ -1,5 +1,6 @@
 // Sending a message over the block in place. Of the records of the outstanding segments it is given whether they fit.
 #![tactic(auto)]
+
 ghost use Rattle.control.specs.Views.{arrays, link_of, Whole};
 ghost use Rattle.checking.specs.Verdicts.{Flies, ByFlown, SendMarked};
 ghost use Rattle.enqueue.specs.Enqueueing.{Enqueueable};

@@ -1,5 +1,6 @@
 // Settings files for C: a number below zero is a refusal's.
 #![tactic(auto)]
+
 ghost use Rattle.std.specs.Prelude.{◌≡◌};
 ghost use Rattle.codes.specs.Codes.{settings_of};
 ghost use Rattle.settings_file.specs.Files.{Writes, read_from};

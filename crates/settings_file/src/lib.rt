@@ -2,6 +2,7 @@
 // threshold 1. That is version 1, of 15 bytes, for an mtu up to 512 with stream and congestion off. Version 2, of 17 bytes, is for all
 // other settings and adds one byte each for stream and congestion. Numbers are little-endian.
 #![tactic(auto)]
+
 ghost use Rattle.std.specs.Prelude.{◌≡◌, ◌≤◌, length};
 ghost use Rattle.std.proofs.lemmas.List.Edits.{sets};
 ghost use Rattle.settings_file.specs.Files.{

@@ -1,5 +1,6 @@
 // How long the lent parts must be: refusal 7.
 #![tactic(auto)]
+
 ghost use Rattle.std.specs.Prelude.{◌≡◌};
 ghost use Rattle.protocol.specs.Ranges.{mss};
 ghost use Rattle.sizes.specs.Sizes.{enough, enough_to_flush};

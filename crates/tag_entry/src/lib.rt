@@ -1,6 +1,7 @@
 // An entry of a table of tags, in 98 bytes: a name length, 32 name bytes, a value length and 64 value bytes. A name length 0
 // is that of a free entry. Unused bytes are zero.
 #![tactic(auto)]
+
 ghost use Rattle.std.specs.Prelude.{◌≡◌, true, ◌+◌, ◌≤◌, ◌<◌, length, replicate};
 ghost use Rattle.std.proofs.lemmas.List.Edits.{sets};
 ghost use Rattle.tag_message.specs.Tags.{every, is_tag};

@@ -1,6 +1,7 @@
 // A name is looked for in two tables of tags, the station's own and the line's defaults: find, ask and found. Refusals in the order
 // 7, 24, 17; asking shows an empty part where it is refused.
 #![tactic(auto)]
+
 ghost use Rattle.std.specs.Prelude.{◌≡◌, ◌<◌, length};
 ghost use Rattle.tag_survey.specs.Tables.{table_size, entries_in};
 ghost use Rattle.tag_find.specs.Findings.{value_at, first_of, find_in, found_by, Shows, ShowsOwn, ShowsDefaults};

@@ -1,5 +1,6 @@
 // A tag message: a name length 1 to 32, the name in bytes 33 to 126, a value length 0 to 64, the value, and then the end.
 #![tactic(auto)]
+
 ghost use Rattle.std.specs.Prelude.{◌≡◌, ◌+◌, ◌≤◌, length};
 ghost use Rattle.std.proofs.lemmas.List.Edits.{sets};
 ghost use Rattle.tag_message.specs.Tags.{number_of, every, is_printable, is_name, is_tag};

@@ -1,5 +1,6 @@
 // One pass over a table of tags: whether it is in its rules, where a name is, and which entry is the lowest free one.
 #![tactic(auto)]
+
 ghost use Rattle.std.specs.Prelude.{◌≡◌, true, ◌+◌, ◌≤◌, ◌<◌, length, take};
 ghost use Rattle.tag_message.specs.Tags.{every};
 ghost use Rattle.tag_entry.specs.Entries.{entry_size, name_length, is_entry, is_named};

@@ -1,5 +1,6 @@
 // A table of tags is changed: set, take and remove. Refusals in the order 7, 24, 17, 18 or 19; a refused call changes nothing.
 #![tactic(auto)]
+
 ghost use Rattle.tag_table.specs.Changes.{SetsTag, TakesTag, RemovesTag};
 
 use tag_entry::{ENTRY, put_entry, put_zeros};

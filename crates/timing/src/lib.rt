@@ -1,5 +1,6 @@
 // The link's times: round trips and timeouts, the probe clock, and the record of an outstanding segment.
 #![tactic(auto)]
+
 mod number;
 pub mod probe;
 pub mod round_trip;

@@ -1,5 +1,6 @@
 // The answers of a replay as lines of text, put into lent output.
 #![tactic(auto)]
+
 pub mod link;
 
 ghost use Rattle.std.specs.Prelude.{◌≡◌, ◌<◌, min, take};

@@ -12,7 +12,7 @@ use Rattle.lists.specs.declared.Held.{Held}
 use Rattle.lists.specs.declared.Sent.{Sent}
 use Rattle.session.specs.Flushing.{bytes_of_segment}
 use Rattle.packing.specs.declared.Packer.{Packer}
-use Rattle.packing.specs.Packers.{Fills, Room, Puts, Adds}
+use Rattle.packing.specs.Packers.{Fills, Puts, Adds}
 use Rattle.packing.specs.PackerLaws.{length_segment, puts_adds, adds_as}
 use Rattle.words.specs.Words.{unpack}
 use Rattle.transmit.specs.declared.Flush.{Flush}
@@ -39,16 +39,6 @@ module _ (f : Flush) (word : ℕ) (x : Transmission) (held : Held) (pool : List 
 
   data_size : length (bytes_of_segment (data_of f pool read)) ≡ 24 + held.len
   data_size = length_segment (data_of f pool read) ∙ simp (length-take, length-drop) (omega (arith, payload_end))
-
-  -- what putting it asks
-  pub data_room : (k : Packer) (out lengths : List ℕ) → Room f.settings.mtu f.settings.mtu 1 k out lengths
-      → Room f.settings.mtu (24 + held.len) 1 k out lengths × (24 + held.len ≤ f.settings.mtu) ×
-      (held.slot * (f.settings.mtu - 24) + held.len ≤ length pool)
-  data_room k out lengths r = (
-    record { fills = r.fills; bytes = omega (arith, small, r.bytes); datagrams = r.datagrams },
-    small,
-    payload_end,
-  )
 
   -- what is put is added
   pub data_adds : (k : Packer) (out lengths : List ℕ) (k' : Packer) (out' lengths' : List ℕ) → Fills f.settings.mtu k

@@ -1,15 +1,15 @@
 -- What is written of a state's parts is what its flush writes.
 -- Assumes nothing.
 use Rattle.std.specs.Prelude.{◌≡◌, Bool, List, ◌++◌, map, ℕ}
-use Rattle.std.proofs.Common.{ap}
+use Rattle.std.proofs.Common.{ap, ◌∙◌}
 use Rattle.protocol.specs.Protocol.{window_ask, window_tell}
 use Rattle.protocol.specs.Ranges.{mss}
 use Rattle.lists.specs.declared.Sent.{Sent}
 use Rattle.session.specs.State.{State}
 use Rattle.session.specs.Flushing.{
   Carried,
-  ack_segment,
   control,
+  ack_segment,
   data_segment,
   wished,
   ruled,
@@ -28,14 +28,12 @@ module _ (s : State) (t : ℕ) (f : Flush) (e : FlushOf s t f) (pool : List ℕ)
       → segments_of f s.receiving.acks ask s.receiving.tell pool sent ≡ written s t pool ask sent
   unfolding written
   same_segments ask sent =
-      rw (e.settings, e.time)
-      (ap
-      (λ (c : Carried).
-      map (ack_segment c) s.receiving.acks
+      ap
+      (λ (c : Carried). map (ack_segment c) s.receiving.acks
       ++ (wished ask (control c window_ask 0 0)
       ++ (wished s.receiving.tell (control c window_tell 0 0)
-      ++ map (data_segment c (mss s.settings) t pool) sent)))
-      e.carries)
+      ++ map (data_segment c (mss f.settings) f.t pool) sent)))
+      e.carries ∙ rw (e.settings, e.time)
 
   same_sent : (l : List Sent) → sent_by f l ≡ transmitted (ruled s.settings s.sending.round_trip.timeout t l)
   same_sent l = rw (e.settings, e.timeout, e.time)

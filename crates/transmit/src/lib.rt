@@ -1,6 +1,7 @@
 // What a flush sends, in place: outstanding segments are transmitted by their rules, and all that is to be sent is packed into
 // datagrams. Transmissions and records are lent arrays, and the lent parts slices.
 #![tactic(auto)]
+
 mod controls;
 mod transmitting;
 

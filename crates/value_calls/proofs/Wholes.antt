@@ -16,12 +16,12 @@ pub whole_of : (l : Link) (vs : List Val) → Is B.the_row l vs → Whole (array
 whole_of l vs is =
     let g = is.1.1.1.1.1.1 in
     record {
-      whole_queued = length_unmapped ℕ l.queued 128 g.0.1.0.1;
-      whole_outstanding = length_unmapped ℕ l.outstanding 32 g.1.0.1.0.1;
-      whole_transmissions = length_unmapped ℕ l.transmissions 32 g.1.1.0.1.0.1;
-      whole_ready = length_unmapped ℕ l.ready 128 g.1.1.1.0.1.0.1;
-      whole_waiting = length_unmapped ℕ l.waiting 128 g.1.1.1.1.0.1.0.1;
-      whole_numbers = length_unmapped ℕ l.waiting_numbers 128 g.1.1.1.1.1.0.1.0.1;
+      whole_queued = g.0.1.0.1;
+      whole_outstanding = g.1.0.1.0.1;
+      whole_transmissions = g.1.1.0.1.0.1;
+      whole_ready = g.1.1.1.0.1.0.1;
+      whole_waiting = g.1.1.1.1.0.1.0.1;
+      whole_numbers = g.1.1.1.1.1.0.1.0.1;
     }
 
 -- the records that are lent of a table of 128

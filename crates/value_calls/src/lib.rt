@@ -1,6 +1,7 @@
 // The calls of a link for a program that keeps block and table by value: the block's lists are locals that are lent to the core,
 // and of the table the first `lent` records, or all where it has fewer.
 #![tactic(auto)]
+
 ghost use Rattle.std.specs.Prelude.{◌≡◌, length, take, drop};
 ghost use Rattle.checking.specs.Verdicts.{Sound};
 ghost use Rattle.promises.specs.Promises.{ShowsPart};
@@ -653,7 +654,7 @@ pub fn show<'a>(
     acks: &[u32],
 ) -> &'a [u8]
     ensures { ShowsPart (shows link (parts_of send_pool.now receive_pool.now (take lent table)
-        acks.now)) receive_pool.entry.ptr receive_pool.now result.ref_ptr result.now }
+        acks.now)) receive_pool.entry.ref_ptr receive_pool.now result.ref_ptr result.now }
 {
     let settings = link.settings;
     let flight = link.flight;

@@ -1,16 +1,15 @@
 -- The turns of the loops of `gather` and `scatter` over a table by value.
 -- Assumes nothing.
-use mathlib.Core.Path.{◌≡◌, refl, sym, ap, ◌∙◌}
-use mathlib.Core.List.{List, [], ◌∷◌, map}
+use mathlib.Core.Path.{◌≡◌, refl, sym, ◌∙◌}
+use mathlib.Core.List.{List, [], ◌∷◌}
 use native.Mathlib.Nat.{not-suc-le-zero, le_of_suc-le-suc}
-use Prim.Native.Nat.{ℕ, zero, suc, ◌+◌, ◌≤◌, ◌<◌, ◌%◌, min}
+use Prim.Native.Nat.{ℕ, zero, suc, ◌≤◌, min}
 use native.Mathlib.Decide.{dec_le}
 use native.Mathlib.Omega.{arith}
-use lib.ListN.{length, get_or, set, take, drop, length-map, length-take, drop_of_length-le, get_or-map}
-use lib.Seq.{get_or-take, length-take-le, take_all, set_out}
+use lib.ListN.{length, get_or, set, take, drop, length-take, drop_of_length-le}
+use lib.Seq.{take_all, set_out}
 use Rattle.timing.specs.declared.Record.{Record}
 use Rattle.records.specs.Tables.{blank}
-use Rattle.records.specs.Tables.{slots_in}
 
 -- of 128 records, the count that is lent
 module _ (table : List Record) (lent most : ℕ) (whole : length table ≡ 128) (e : most ≡ min lent 128) where

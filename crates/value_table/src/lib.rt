@@ -1,6 +1,7 @@
 // The table of records for a program that keeps it by value: its first `lent` records, or all where it has fewer, are lent to a
 // call. The records of the outstanding segments are gathered from those, and put back.
 #![tactic(auto)]
+
 ghost use Rattle.std.specs.Prelude.{◌≡◌, ◌≤◌, ◌<◌, ◌%◌, min, take, drop, get_or, set};
 ghost use Rattle.records.specs.Tables.{blank, slots_in, gathered, padded, scattered};
 ghost use Rattle.record_words.specs.RecordWords.{records_in};

@@ -1,5 +1,6 @@
 // Segments' headers as bytes.
 #![tactic(auto)]
+
 pub mod codec;
 pub mod number;
 

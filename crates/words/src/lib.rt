@@ -1,5 +1,6 @@
 // Lists in the front of lent arrays, changed in place. A held segment is one word: slot, fragment number and length.
 #![tactic(auto)]
+
 ghost use Rattle.std.specs.Prelude.{◌≡◌, [], ◌∷◌, ◌++◌, ◌+◌, ◌-◌, ◌≤◌, ◌<◌, take, drop, length, get_or, ◌&&◌, ltb, eqb};
 ghost use Rattle.protocol.specs.Serial.{minus};
 ghost use Rattle.lists.specs.Orders.{waiting_offset, insert};

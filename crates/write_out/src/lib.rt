@@ -1,6 +1,7 @@
 // A flush, or where it is paced an update, of the block behind a pointer: the records of the outstanding segments are gathered from the lent
-// table, and put back. Proved by a walk.
+// table, and put back.
 #![tactic(auto)]
+
 ghost use Rattle.promises.specs.Parts.{parts_of, flush_parts_of};
 ghost use Rattle.write_out.specs.Written.{WrittenOut};
 
@@ -58,6 +59,7 @@ pub fn write_out(
         output,
         lengths,
     );
+    lending::whole(link);
     let flight = results::flushed_flight(flushed);
     link.flight = flight;
     let arrival = results::flushed_arrival(flushed);

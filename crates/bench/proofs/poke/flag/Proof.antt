@@ -1,8 +1,0 @@
--- `bench::poke::flag` meets its contract, by the test that the definition makes.
--- Assumes nothing.
-use borrow.Author.Tests.{eq-eqb, ne_eqb}
-use Rattle.bench.proofs.poke.flag.Statement.{statement}
-use Rattle.bench.proofs.poke.flag.Tie as tie
-
-pub flag_spec : {M : Type 1} → statement M
-flag_spec = tie.close (tie.spec (λ c. rw (eq-eqb _ _ c.if1.true)) (λ c. rw (ne_eqb _ _ c.if1.false)))

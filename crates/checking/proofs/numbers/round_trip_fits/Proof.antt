@@ -1,8 +1,0 @@
--- `round_trip_fits` meets its contract: each test is one of the definition's.
--- Assumes nothing.
-use borrow.Author.Rules.{rules}
-use Rattle.checking.proofs.numbers.round_trip_fits.Statement.{statement}
-use Rattle.checking.proofs.numbers.round_trip_fits.Tie as tie
-
-pub round_trip_fits_spec : {M : Type 1} → statement M
-round_trip_fits_spec = tie.close (tie.spec (λ c κs. search rules) (λ c. cc))

@@ -1,0 +1,18 @@
+-- `congestion::rules::avoidance` meets its contract.
+use borrow.Author.Rules.{rules}
+use Rattle.congestion.specs.Congestions.{avoidance}
+use Rattle.congestion.specs.CongestionLaws.{raised_fits}
+use Rattle.congestion.proofs.rules.avoidance.Goals as goal
+
+pub widened-requires : goal.widened-requires
+widened-requires c = (
+  c.requires.window,
+  rw c.raised-allowance.ensures (raised_fits c.args.c.allowance c.args.mss c.requires.allowance
+      c.requires.most),
+  c.requires.least,
+  c.requires.most,
+)
+
+pub returns : goal.returns
+unfolding avoidance
+returns c = rw (c.widened.ensures, c.raised-allowance.ensures)

@@ -1,0 +1,17 @@
+-- The records behind the first i slots, put into the table as it is now, give the table that is wanted.
+use Rattle.std.proofs.Common.{◌-◌, ◌≤◌}
+use Rattle.records.specs.Tables.{slots_in, scattered}
+use Rattle.records.proofs.Turns.{Left}
+use Rattle.record_words.specs.RecordWords.{records_in}
+use Rattle.gathering.proofs.scatter.Given as goal
+
+abbrev pub invariant-loop-i : goal.invariant-loop-i
+invariant-loop-i l =
+    let slots = slots_in l.words l.n in
+    record {
+      within : l.i ≤ l.count;
+      left : Left l.table slots (records_in l.records) l.i (scattered l.fn.table slots (records_in l.records));
+    }
+
+abbrev pub decreases-loop-i : goal.decreases-loop-i
+decreases-loop-i l = l.count - l.i
