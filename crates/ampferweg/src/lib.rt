@@ -1,6 +1,6 @@
 // What C calls: each function takes the block behind a pointer, and answers with a number, 0 or more where the call is done
 // and the refusal's number below zero where it is not; an update that is done and does not flush has a number of its own. Each gives what it
-// is given to a function of a crate below; of the table of records the first 128 are read and written. Proved by walks.
+// is given to a function of a crate below; of the table of records the first 128 are read and written.
 #![tactic(auto)]
 
 pub mod settings;
@@ -19,8 +19,7 @@ use control::Link;
 use timing::Record;
 
 // Opening with these settings: 0, or the refusal. A number that is too large for its setting is out of range.
-#[unsafe(no_mangle)]
-pub extern "C" fn ampferweg_open(
+pub fn ampferweg_open(
     link: &mut Link,
     conv: u32,
     mtu: u32,
@@ -56,8 +55,7 @@ pub extern "C" fn ampferweg_open(
 }
 
 // Sending a message: 0, or the refusal.
-#[unsafe(no_mangle)]
-pub extern "C" fn ampferweg_send(
+pub fn ampferweg_send(
     link: &mut Link,
     send_pool: &mut [u8],
     receive_pool: &[u8],
@@ -74,8 +72,7 @@ pub extern "C" fn ampferweg_send(
 }
 
 // Taking in a datagram: 0, or the refusal.
-#[unsafe(no_mangle)]
-pub extern "C" fn ampferweg_input(
+pub fn ampferweg_input(
     link: &mut Link,
     send_pool: &[u8],
     receive_pool: &mut [u8],
@@ -92,8 +89,7 @@ pub extern "C" fn ampferweg_input(
 }
 
 // A flush at time t: its datagrams, or the refusal.
-#[unsafe(no_mangle)]
-pub extern "C" fn ampferweg_flush(
+pub fn ampferweg_flush(
     link: &mut Link,
     send_pool: &[u8],
     receive_pool: &[u8],
@@ -124,8 +120,7 @@ pub extern "C" fn ampferweg_flush(
 }
 
 // An update at time t: the datagrams of its flush, the number of one that does not flush, or the refusal.
-#[unsafe(no_mangle)]
-pub extern "C" fn ampferweg_update(
+pub fn ampferweg_update(
     link: &mut Link,
     send_pool: &[u8],
     receive_pool: &[u8],
@@ -156,8 +151,7 @@ pub extern "C" fn ampferweg_update(
 }
 
 // Naming the time at which the next update is wanted: it is stored, and 0 returned, or the refusal, and nothing is stored.
-#[unsafe(no_mangle)]
-pub extern "C" fn ampferweg_check(
+pub fn ampferweg_check(
     link: &Link,
     send_pool: &[u8],
     receive_pool: &[u8],
@@ -174,8 +168,7 @@ pub extern "C" fn ampferweg_check(
 }
 
 // Reading a message: its bytes, or the refusal.
-#[unsafe(no_mangle)]
-pub extern "C" fn ampferweg_read(
+pub fn ampferweg_read(
     link: &mut Link,
     send_pool: &[u8],
     receive_pool: &[u8],
@@ -193,8 +186,7 @@ pub extern "C" fn ampferweg_read(
 }
 
 // Telling the size of the next message: its bytes, or the refusal.
-#[unsafe(no_mangle)]
-pub extern "C" fn ampferweg_size(
+pub fn ampferweg_size(
     link: &Link,
     send_pool: &[u8],
     receive_pool: &[u8],
@@ -209,8 +201,7 @@ pub extern "C" fn ampferweg_size(
 
 // Where in the receive pool the front segment's payload lies: its start is stored, its bytes are counted; 0 and 0 where
 // showing is refused.
-#[unsafe(no_mangle)]
-pub extern "C" fn ampferweg_show(
+pub fn ampferweg_show(
     link: &Link,
     send_pool: &[u8],
     receive_pool: &[u8],
@@ -225,16 +216,14 @@ pub extern "C" fn ampferweg_show(
 }
 
 // The bytes of the control block that these functions have, for a host that compares them with its header's.
-#[unsafe(no_mangle)]
-pub extern "C" fn ampferweg_block_size() -> u32
+pub fn ampferweg_block_size() -> u32
     ensures { result ≡ block_size }
 {
     archive::block_size()
 }
 
 // The version of these functions, as one number.
-#[unsafe(no_mangle)]
-pub extern "C" fn ampferweg_version_number() -> u32
+pub fn ampferweg_version_number() -> u32
     ensures { result ≡ version_number }
 {
     archive::version_number()

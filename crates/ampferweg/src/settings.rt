@@ -5,8 +5,7 @@ ghost use Rattle.settings_file.specs.Files.{Writes, read_from};
 ghost use Rattle.settings_calls.specs.SettingsFiles.{writing_code, numbers, Stores};
 
 // Writes the file of these settings at the start of a part: its count of bytes, or the refusal.
-#[unsafe(no_mangle)]
-pub extern "C" fn ampferweg_settings_write(
+pub fn ampferweg_settings_write(
     conv: u32,
     mtu: u32,
     mode: u32,
@@ -25,8 +24,7 @@ pub extern "C" fn ampferweg_settings_write(
 }
 
 // Reads a file: 0, and its settings are stored; or the refusal, and nothing is.
-#[unsafe(no_mangle)]
-pub extern "C" fn ampferweg_settings_read(
+pub fn ampferweg_settings_read(
     file: &[u8],
     conv: &mut u32,
     mtu: &mut u32,

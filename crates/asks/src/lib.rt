@@ -1,5 +1,5 @@
 // What a block is asked behind a pointer and left as it is: the size of the next message, where its first segment lies, and when the next update
-// is wanted. Proved by walks.
+// is wanted.
 #![tactic(auto)]
 
 ghost use Rattle.promises.specs.Parts.{parts_of};

@@ -1,5 +1,5 @@
 // Opening, sending and reading over the block behind a pointer: the numbers that C gets. The fields of the block are lent to the call's core,
-// and changed in place. Proved by walks.
+// and changed in place.
 #![tactic(auto)]
 
 ghost use Rattle.promises.specs.Parts.{parts_of};

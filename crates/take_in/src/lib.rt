@@ -1,5 +1,5 @@
 // Taking in a datagram over the block behind a pointer: the records of the outstanding segments are gathered from the lent table, and put
-// back. Proved by a walk.
+// back.
 #![tactic(auto)]
 
 ghost use Rattle.promises.specs.Parts.{parts_of};
@@ -55,6 +55,7 @@ pub fn take_in(
         acks,
         datagram,
     );
+    lending::whole(link);
     let flight = results::taken_flight(taken);
     link.flight = flight;
     let arrival = results::taken_arrival(taken);

@@ -1,41 +1,20 @@
--- The whole write: there is room for all parts, and what they add is what is packed.
+-- The whole write: what its parts add is what is packed.
 -- Assumes nothing.
 use mathlib.Core.Path.{◌≡◌}
 use mathlib.Core.Bool.{Bool}
 use mathlib.Core.List.{List, [], ◌++◌, map, foldl, append_assoc}
-use Prim.Native.Nat.{ℕ, ◌+◌, ◌*◌, ◌<◌, ◌^◌}
-use native.Mathlib.Omega.{arith}
+use Prim.Native.Nat.{ℕ}
 use Rattle.protocol.specs.Protocol.{window_ask, window_tell}
 use Rattle.lists.specs.declared.Sent.{Sent}
 use Rattle.datagram.specs.Datagrams.{Segment}
 use Rattle.session.specs.State.{Ack}
 use Rattle.session.specs.Flushing.{control, ack_segment, wished, pack_one, packed}
 use Rattle.packing.specs.declared.Packer.{Packer}
-use Rattle.packing.specs.Packers.{carried_of, Output, bytes_of_datagrams, none, Room, Adds, Finishes}
-use Rattle.packing.specs.PackerLaws.{adds_append, room_left, packs_none, finishes_output}
+use Rattle.packing.specs.Packers.{carried_of, Output, bytes_of_datagrams, none, Adds, Finishes}
+use Rattle.packing.specs.PackerLaws.{adds_append, packs_none, finishes_output}
 use Rattle.transmit.specs.declared.Flush.{Flush}
 use Rattle.transmit.specs.declared.Walked.{Walked}
-use Rattle.transmit.specs.Writing.{Writable, Walks, Writes}
-
--- ---- room
-
-module _ (f : Flush) (noted : ℕ) (acks words transmissions records : List ℕ) (n : ℕ) (pool out lengths : List ℕ)
-    (w : Writable f noted acks words transmissions records n pool out lengths) where
-  whole_room : f.settings.mtu < 2 ^ 16 → Room f.settings.mtu (258 * 24 + 32 * f.settings.mtu) 290 none out lengths
-  whole_room h =
-      record {
-        fills = record { word = h; order = omega arith; within = omega arith };
-        bytes = omega (arith, w.bytes);
-        datagrams = omega (arith, w.sizes);
-      }
-
-  module _ (gs : List Segment) (k₀ k : Packer) (out' lengths' : List ℕ) (e : k₀ ≡ none)
-      (a : Adds f.settings.mtu gs (24 * noted + 48) (noted + 2) k₀ out lengths k out' lengths') where
-    -- for the data
-    pub data_left : Room f.settings.mtu (32 * f.settings.mtu) 32 k out' lengths'
-    data_left = room_left (rw e at a) (whole_room a.fills.word) (omega (arith, w.few)) (omega (arith, w.few))
-
--- ---- what is written
+use Rattle.transmit.specs.Writing.{Walks, Writes}
 
 output_of : (mtu n m : ℕ) (gs : List Segment) (k₀ : Packer) (out lengths : List ℕ) (k : Packer) (out' lengths' : List ℕ) (count : ℕ)
     (lengths'' : List ℕ)

@@ -1,5 +1,5 @@
 // A flush, or where it is paced an update, of the block behind a pointer: the records of the outstanding segments are gathered from the lent
-// table, and put back. Proved by a walk.
+// table, and put back.
 #![tactic(auto)]
 
 ghost use Rattle.promises.specs.Parts.{parts_of, flush_parts_of};
@@ -59,6 +59,7 @@ pub fn write_out(
         output,
         lengths,
     );
+    lending::whole(link);
     let flight = results::flushed_flight(flushed);
     link.flight = flight;
     let arrival = results::flushed_arrival(flushed);
