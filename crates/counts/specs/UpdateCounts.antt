@@ -1,7 +1,7 @@
 -- What C gets of an update and of a check, whatever block and parts they are given: the count of an update's datagrams as it is, one number
 -- alone where it does not flush, which is no count's and no refusal's, and the time that a check names.
 -- Assumes nothing.
-use Rattle.std.specs.Prelude.{◌≡◌, refl, true, false, List, ℕ, ℤ, pos, length}
+use Rattle.std.specs.Prelude.{◌≡◌, refl, true, ℕ, ℤ, pos, length}
 use Rattle.std.proofs.Common.{sym, ap, ◌∙◌, subst, arith, le-ltb}
 use Rattle.std.proofs.lemmas.Bool.{false≢true}
 use Rattle.std.specs.Int.Signed.{lt_z}
