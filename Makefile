@@ -34,7 +34,7 @@ ARCHIVES = $(ARCHIVE) $(TAGS) $(PARITY)
 NAMES = ampferweg ampferweg_tags ampferweg_parity
 TARGETS := $(shell sed -n 's/^\([a-z0-9_-]*\) *|.*/\1/p' boards/targets.txt)
 VERSION := $(shell sed -n 's/^\#define AMPFERWEG_VERSION "\(.*\)"$$/\1/p' include/ampferweg.h)
-SOURCES := $(shell find crates crates.txt -name '*.rt' -o -name '*.antt' -o -name crates.txt)
+SOURCES := $(shell find crates crates.txt -regex 'crates/[^/]*/out' -prune -o -name '*.rt' -print -o -name '*.antt' -print -o -name crates.txt -print)
 RELEASES = $(TARGETS:%=target/dist/ampferweg-$(VERSION)-%.tar.gz)
 MODULES = $(NAMES:%=target/module/%.bc)
 BOARDS = $(foreach target,$(filter-out x86_64-linux,$(TARGETS)),$(NAMES:%=target/boards/$(target)/lib%.a))
@@ -51,7 +51,7 @@ endef
 
 $(NAMES:%=target/staticlib/lib%.a): target/staticlib/lib%.a: $(SOURCES)
 	$(kit)
-	$(RT) staticlib $*
+	RT=$(RT) tools/archive.sh $*
 
 target/module/%.bc: $(SOURCES)
 	$(kit)
@@ -59,8 +59,8 @@ target/module/%.bc: $(SOURCES)
 
 target/bin/lister target/bin/replay: target/bin/%: $(SOURCES)
 	$(kit)
-	$(RT) check $*
-	touch $@
+	cd crates/$* && $(RT) run --cpu=x86-64 </dev/null >/dev/null
+	install -D -t target/bin crates/$*/out/$*
 
 archive: $(MODULES)
 	boards/archive.py $(TARGET) $(FLAGS)

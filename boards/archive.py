@@ -40,7 +40,7 @@ def check_module(name, text):
     for body in re.findall(r"^define .*?^}", text, re.M | re.S):
         for slot in re.findall(r"(%\w+) = alloca ptr", body):
             uses = re.findall(rf"^.*{slot}\b.*$", body, re.M)
-            as_pointer = rf"\s*({slot} = alloca ptr|store ptr %\w+, ptr {slot},|%\w+ = load ptr, ptr {slot},)"
+            as_pointer = rf"\s*({slot} = alloca ptr|store ptr [%@][\w.]+, ptr {slot},|%\w+ = load ptr, ptr {slot},)"
             if other := [use for use in uses if not re.match(as_pointer, use)]:
                 refuse(f"{name}: a pointer's place is used as other than a pointer: {other[0].strip()}")
 

@@ -1,35 +1,34 @@
 #!/bin/sh
-# module.sh NAME: proves crate NAME and writes target/staticlib/libNAME.a, as `rt staticlib NAME` does, and keeps the LLVM module that the
+# module.sh NAME: proves crate NAME_c and writes target/staticlib/libNAME.a, as tools/archive.sh does, and keeps the LLVM module that the
 # prover hands to the clang of its toolchain: target/module/NAME.bc, and clang's command, a word a line, NAME.command.
-# rt is pointed at a folder of links that stands for the kit. One file is not a link: toolchain/bin/clang, which copies the module and then
-# runs the kit's clang with the same words. So verdict and archive are those of the kit.
+# rt is run from a folder of links that stands for the kit. Three files are no links: bin/rt and bin/rtlib.py, copies, since they look for the
+# kit where they themselves lie, and toolchain/bin/clang, which copies the module and then runs the kit's clang with the same words. So
+# verdict and archive are those of the kit.
 set -eu
 [ $# -eq 1 ] || { echo "usage: module.sh NAME" >&2; exit 2; }
 cd "$(dirname "$0")/.."
 rt=$(command -v "${RT:-rt}") || { echo "module.sh: there is no ${RT:-rt} on the PATH" >&2; exit 2; }
-kit=${RATTLE_HOME:-$(dirname "$(dirname "$(readlink -f "$rt")")")}
-bin=on/$(uname -m)/toolchain/bin
+kit=$(dirname "$(dirname "$(readlink -f "$rt")")")
 mkdir -p target/module
 kept=$PWD/target/module/$1
 rm -f "$kept".*
 
-links=$(mktemp -d)
-trap 'rm -rf "$links"' EXIT
-mkdir -p "$links/$bin"
-cat >"$links/$bin/clang" <<CLANG
+folder=$(mktemp -d)
+trap 'rm -rf "$folder"' EXIT
+links=$folder/kit
+mkdir -p "$links/bin" "$links/toolchain/bin"
+cp "$kit/bin/rt" "$kit/bin/rtlib.py" "$links/bin/"
+cat >"$links/toolchain/bin/clang" <<CLANG
 #!/bin/sh
 set -e
 for word in "\$@"; do case \$word in *.bc) cp "\$word" '$kept.bc' ;; esac; done
-printf '%s\n' '$kit/$bin/clang' "\$@" >'$kept.command'
-exec '$kit/$bin/clang' "\$@"
+printf '%s\n' '$kit/toolchain/bin/clang' "\$@" >'$kept.command'
+exec '$kit/toolchain/bin/clang' "\$@"
 CLANG
-chmod +x "$links/$bin/clang"
-folder=$bin
-while :; do
-    for part in "$kit/$folder"/*; do [ -e "$links/$folder/${part##*/}" ] || ln -s "$part" "$links/$folder/"; done
-    [ "$folder" != . ] || break
-    folder=$(dirname "$folder")
+chmod +x "$links/toolchain/bin/clang"
+for part in toolchain/bin toolchain bin .; do
+    for file in "$kit/$part"/*; do [ -e "$links/$part/${file##*/}" ] || ln -s "$file" "$links/$part/"; done
 done
 
-RATTLE_HOME=$links "$rt" staticlib "$1"
+RT=$links/bin/rt tools/archive.sh "$1"
 [ -s "$kept.bc" ] || { echo "module.sh: the prover handed no module to clang" >&2; exit 1; }

@@ -12,8 +12,8 @@ archive=${1:-$root/target/staticlib/libampferweg.a}
 archive=$(cd "$(dirname "$archive")" && pwd)/$(basename "$archive")
 tags=$(dirname "$archive")/libampferweg_tags.a
 parity=$(dirname "$archive")/libampferweg_parity.a
-[ -f "$tags" ] || (cd "$root" && rt staticlib ampferweg_tags) >/dev/null || { echo "run.sh: $tags is missing" >&2; exit 2; }
-[ -f "$parity" ] || (cd "$root" && rt staticlib ampferweg_parity) >/dev/null || { echo "run.sh: $parity is missing" >&2; exit 2; }
+[ -f "$tags" ] || "$root/tools/archive.sh" ampferweg_tags >/dev/null || { echo "run.sh: $tags is missing" >&2; exit 2; }
+[ -f "$parity" ] || "$root/tools/archive.sh" ampferweg_parity >/dev/null || { echo "run.sh: $parity is missing" >&2; exit 2; }
 work=${WORK:-$root/target/host}
 emulator=${EMULATOR:-}
 export CFLAGS="${CFLAGS:-}"

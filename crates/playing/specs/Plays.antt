@@ -2,7 +2,7 @@
 -- b is the bench before the command, s, r and a are send pool, receive pool and ack list, and text is where the answer goes;
 -- x is what is given, and s', r', a' and text' are the parts and the text after it.
 -- Assumes nothing.
-use Rattle.std.specs.Prelude.{◌≡◌, Bool, true, false, List, ◌++◌, ℕ, ◌-◌, ◌≤◌, ◌<◌, min, length, take, drop, get_or, set, replicate}
+use Rattle.std.specs.Prelude.{◌≡◌, true, false, List, ◌++◌, ℕ, ◌-◌, ◌≤◌, ◌<◌, min, length, take, drop, get_or, set, replicate}
 use Rattle.protocol.specs.Protocol.{output_least, lengths_least}
 use Rattle.protocol.specs.declared.Settings.{Settings}
 use Rattle.protocol.specs.declared.Refusal.TheVariants.{InvalidBlock}
@@ -11,7 +11,6 @@ use Rattle.answers.specs.declared.Count.TheVariants.{Of, Refused}
 use Rattle.answers.specs.declared.Update.{Update}
 use Rattle.answers.specs.declared.Update.TheVariants as update
 use Rattle.answers.specs.declared.Time.{Time}
-use Rattle.timing.specs.declared.Record.{Record}
 use Rattle.control.specs.declared.Link.{Link}
 use Rattle.notation.specs.Ascii.{ascii}
 use Rattle.notation.specs.Puts.{Put}

@@ -6,7 +6,6 @@ use Prim.Native.Nat.{ℕ, min}
 use lib.ListN.{length, take, length-take}
 use Rattle.timing.specs.declared.Record.{Record}
 use mir.Val.{Val}
-use borrow.Author.Rules.{length_unmapped}
 use denote.Laws.{Is}
 use Rattle.control.specs.Views.{Whole, arrays_of}
 use Rattle.control.specs.declared.Link.{Link}

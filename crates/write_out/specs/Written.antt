@@ -1,7 +1,7 @@
 -- What a flush, or where it is paced an update, has left before its records are put back, and what it gives C with them put back.
 -- Definitions.
 -- Assumes nothing.
-use Rattle.std.specs.Prelude.{◌≡◌, Bool, true, false, List, ℕ, ℤ}
+use Rattle.std.specs.Prelude.{◌≡◌, Bool, true, false, ℕ, ℤ}
 use Rattle.answers.specs.declared.Count.{Count}
 use Rattle.answers.specs.declared.Update.{Update}
 use Rattle.control.specs.declared.Link.{Link}

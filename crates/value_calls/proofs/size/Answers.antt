@@ -19,7 +19,7 @@ size-requires c =
         record {
           whole = ap length c.gather-records.ensures ∙ padded_whole (take 128 (take a.lent a.table)) a.link.outstanding
               a.link.flight.outstanding;
-          c = c.flight_fits-flown.ensures;
+          fits = c.flight_fits-flown.ensures;
         },
       ),
       (_, (_, c.marks_of-block.ensures)),
@@ -37,5 +37,5 @@ returns c =
     (record {
       whole = ap length c.gather-records.ensures ∙ padded_whole (take 128 (take a.lent a.table)) a.link.outstanding
           a.link.flight.outstanding;
-      c = c.flight_fits-flown.ensures;
+      fits = c.flight_fits-flown.ensures;
     }))

@@ -1,7 +1,7 @@
 -- `listing::out::put_segments` meets its contract: at the loop the lines of the segments that remain, and the count's, are left to be put.
 use mathlib.Core.Path.{refl, sym, ◌∙◌}
 use native.Mathlib.Omega.{arith}
-use Rattle.datagram.specs.StepLaws.{took, ended}
+use Rattle.datagram.proofs.StepLaws.{took, ended}
 use Rattle.listing.specs.LineLaws.{holds_length}
 use Rattle.listing.specs.ListingLaws.{listed_all, left_begin, left_line, left_last}
 use Rattle.listing.proofs.out.put_segments.Goals as goal
