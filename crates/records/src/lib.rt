@@ -1,4 +1,4 @@
-// The lent table of records, one for each send slot: its length, and one record read or replaced. Proved by hand.
+// The lent table of records, one for each send slot: its length, and one record read or replaced.
 #![tactic(auto)]
 
 ghost use Rattle.std.specs.Prelude.{◌≡◌, length, get_or, set};

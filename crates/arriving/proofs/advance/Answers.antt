@@ -7,14 +7,13 @@ use Rattle.arriving.proofs.advance.Goals as goal
 
 pub returns-then-k-eq0 : goal.returns-then-k-eq0
 returns-then-k-eq0 c =
-    let start = c in
-    let a = start.args in
-    let p = start.requires in
+    let a = c.args in
+    let p = c.requires in
     record {
       whole = p.0;
       is =
           none_up a.ready.now a.waiting.now a.numbers.now a.arrival.ready a.arrival.waiting _ a.arrival.expected
-          p.0 (let low' : start.args.arrival.expected < 2 ^ 32 = search rules in low') p.1.few_ready p.1.few_waiting
+          p.0 (search rules) p.1.few_ready p.1.few_waiting
           c.least-most.ensures
           (sym c.if-k-eq0.true ∙ c.run-k.ensures.1 a.waiting.now p.0.whole_waiting);
       same_acks = refl;
@@ -23,10 +22,8 @@ returns-then-k-eq0 c =
 
 pub returns : goal.returns
 returns c =
-    let i = c in
-    let start = i in
-    let a = start.args in
-    let p = start.requires in
+    let a = c.args in
+    let p = c.requires in
     let up = c.append_first.ensures in
     let left = c.drop_first.ensures in
     let numbers = c.drop_first-2.ensures in
@@ -35,8 +32,8 @@ returns c =
       is =
           moved_up a.ready.now a.waiting.now a.numbers.now _ _ _ a.arrival.ready a.arrival.waiting _ p.0
           p.1.few_waiting (search rules) up left numbers
-          a.arrival.expected _ _ (let low' : start.args.arrival.expected < 2 ^ 32 = search rules in low') p.1.few_ready i.least-most.ensures
-          (i.run-k.ensures.1 a.waiting.now p.0.whole_waiting) c.sum.ensures;
+          a.arrival.expected _ _ (search rules) p.1.few_ready c.least-most.ensures
+          (c.run-k.ensures.1 a.waiting.now p.0.whole_waiting) c.sum.ensures;
       same_acks = refl;
       same_tell = refl;
     }

@@ -4,9 +4,8 @@ use Rattle.arriving.proofs.freed.Goals as goal
 
 pub returns : goal.returns
 returns c =
-    let start = c in
-    let a = start.args in
-    let p = start.requires in
+    let a = c.args in
+    let p = c.requires in
     let ad = c.advance-moved.ensures in
     record {
       whole = ad.whole;

@@ -47,21 +47,16 @@ module _ (conv mss : ℕ) (s : List ℕ) (i count : ℕ) (whole : Checked) (e : 
 
 -- a header was found at the loop's position
 found : (c : goal.In-Whole) →
-    let loop = c in
-    (header_at loop.args.s.now loop.loop-h.at ≡ Whole c.in-Whole.h)
+    (header_at c.args.s.now c.loop-h.at ≡ Whole c.in-Whole.h)
 found c = sym c.find_header-found.ensures ∙ c.in-Whole.is
 
 -- the segment has passed
 went_on : (c : goal.After-struct_known-1) →
-    let known = c in
-    let loop = known in
-    let a = loop.args in
-    GoesOn a.conv a.mss a.s.now loop.loop-h.at loop.loop-h.count (counted 0 (parse a.conv a.mss a.s.now))
-    known.in-Whole.h
+    let a = c.args in
+    GoesOn a.conv a.mss a.s.now c.loop-h.at c.loop-h.count (counted 0 (parse a.conv a.mss a.s.now))
+    c.in-Whole.h
 went_on c =
-    let known = c in
-    goes_on _ _ _ _ _ _ known.loop-h.invariant.2 _ (let found' : let loop = known in
-    (header_at loop.args.s.now loop.loop-h.at ≡ Whole known.in-Whole.h) = sym known.find_header-found.ensures ∙ known.in-Whole.is in found')
+    goes_on _ _ _ _ _ _ c.loop-h.invariant.2 _ (sym c.find_header-found.ensures ∙ c.in-Whole.is)
     (sym c.judge-verdict.ensures ∙ c.in_default-verdict.is)
 
 pub loop-h-init : goal.loop-h-init
@@ -69,22 +64,18 @@ loop-h-init c = (omega arith, omega arith, rw (parse_long _ _ _ c.if-s-lt-HEADER
 
 pub returns-then-at-s : goal.returns-then-at-s
 returns-then-at-s c =
-    let call = c in
-    refuses_tail _ _ _ _ _ _ call.loop-h.invariant.2 (sym call.find_header-found.ensures ∙ c.in_default.is)
+    refuses_tail _ _ _ _ _ _ c.loop-h.invariant.2 (sym c.find_header-found.ensures ∙ c.in_default.is)
     c.if-at-s.true
 
 pub returns-in_default : goal.returns-in_default
 returns-in_default c =
-    let call = c in
-    stops _ _ _ _ _ _ call.loop-h.invariant.2 (sym call.find_header-found.ensures ∙ c.in_default.is)
+    stops _ _ _ _ _ _ c.loop-h.invariant.2 (sym c.find_header-found.ensures ∙ c.in_default.is)
     (omega (arith, c.if-at-s.false))
 
 pub returns-in-Fails : goal.returns-in-Fails
 returns-in-Fails c =
-    let call = c in
-    refuses _ _ _ _ _ _ call.loop-h.invariant.2 _ (let found' : let loop = call in
-    (header_at loop.args.s.now loop.loop-h.at ≡ Whole call.in-Whole.h) = sym call.find_header-found.ensures ∙ call.in-Whole.is in found') _
-    (sym call.judge-verdict.ensures ∙ c.in-Fails.is)
+    refuses _ _ _ _ _ _ c.loop-h.invariant.2 _ (sym c.find_header-found.ensures ∙ c.in-Whole.is) _
+    (sym c.judge-verdict.ensures ∙ c.in-Fails.is)
 
 pub loop-h-preserved : goal.loop-h-preserved
 loop-h-preserved c = let w = went_on c in (w.inside, omega arith, w.rest)

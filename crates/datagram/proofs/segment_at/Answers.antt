@@ -46,21 +46,17 @@ overflow_add-start c = omega (arith, found_whole _ _ _ (found c))
 pub overflow_sub-s : goal.overflow_sub-s
 overflow_sub-s c = omega (
   arith,
-  (found_whole _ _ _ (let found' : header_at c.args.s.now c.args.at ≡ Whole
-      c.in-Whole.header = sym c.find_header-found.ensures ∙ c.in-Whole.is in found')).inside,
+  (found_whole _ _ _ (sym c.find_header-found.ensures ∙ c.in-Whole.is)).inside,
 )
 
 pub returns-then-s-start : goal.returns-then-s-start
-returns-then-s-start c = no_payload _ _ _ (let found' : header_at c.args.s.now c.args.at ≡ Whole
-    c.in-Whole.header = sym c.find_header-found.ensures ∙ c.in-Whole.is in found') c.if-s-start.true
+returns-then-s-start c = no_payload _ _ _ (sym c.find_header-found.ensures ∙ c.in-Whole.is) c.if-s-start.true
 
 pub overflow_add-result : goal.overflow_add-result
 overflow_add-result c = omega (
   arith,
-  (found_whole _ _ _ (let found' : header_at c.args.s.now c.args.at ≡ Whole
-      c.in-Whole.header = sym c.find_header-found.ensures ∙ c.in-Whole.is in found')).inside,
+  (found_whole _ _ _ (sym c.find_header-found.ensures ∙ c.in-Whole.is)).inside,
 )
 
 pub returns : goal.returns
-returns c = whole _ _ _ (let found' : header_at c.args.s.now c.args.at ≡ Whole
-    c.in-Whole.header = sym c.find_header-found.ensures ∙ c.in-Whole.is in found') c.if-s-start.false
+returns c = whole _ _ _ (sym c.find_header-found.ensures ∙ c.in-Whole.is) c.if-s-start.false

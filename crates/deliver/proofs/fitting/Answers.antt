@@ -5,21 +5,15 @@ use Rattle.deliver.proofs.fitting.Goals as goal
 
 pub returns-then-size-room : goal.returns-then-size-room
 returns-then-size-room c =
-    let f = c in
-    let s = f in
-    let a = s.args in
-    fits (held_in a.ready.now a.n) _ _ (rw f.in-Of.is at s.front_size-front.ensures) c.if-size-room.true
+    let a = c.args in
+    fits (held_in a.ready.now a.n) _ _ (rw c.in-Of.is at c.front_size-front.ensures) c.if-size-room.true
 
 pub returns-else-size-room : goal.returns-else-size-room
 returns-else-size-room c =
-    let f = c in
-    let s = f in
-    let a = s.args in
-    too_long (held_in a.ready.now a.n) _ _ (rw f.in-Of.is at s.front_size-front.ensures) c.if-size-room.false
+    let a = c.args in
+    too_long (held_in a.ready.now a.n) _ _ (rw c.in-Of.is at c.front_size-front.ensures) c.if-size-room.false
 
 pub returns-in-Refused : goal.returns-in-Refused
 returns-in-Refused c =
-    let f = c in
-    let s = f in
-    let a = s.args in
-    none (held_in a.ready.now a.n) _ _ (rw f.in-Refused.is at s.front_size-front.ensures)
+    let a = c.args in
+    none (held_in a.ready.now a.n) _ _ (rw c.in-Refused.is at c.front_size-front.ensures)

@@ -9,18 +9,16 @@ use Rattle.deliver.proofs.front_size.Goals as goal
 
 pub returns-then-k-n : goal.returns-then-k-n
 returns-then-k-n c =
-    let s = c in
-    let w = s.args.ready.now in
-    let n = s.args.n in
+    let w = c.args.ready.now in
+    let n = c.args.n in
     let k = c.front_count-k in
-    let e = readable_is w n _ (omega (arith, s.requires)) k.ensures in
+    let e = readable_is w n _ (omega (arith, c.requires)) k.ensures in
     front_readable (held_in w n) _ e _ c.if-k-n.true
-    (c.total.ensures ∙ ap length_of (message_words w n _ (omega (arith, s.requires)) k.ensures
+    (c.total.ensures ∙ ap length_of (message_words w n _ (omega (arith, c.requires)) k.ensures
     (tested_within _ _ c.if-k-n.true)))
 
 pub returns : goal.returns
 returns c =
-    let s = c in
-    let w = s.args.ready.now in
-    let n = s.args.n in
-    front_none (held_in w n) _ (readable_is w n _ (omega (arith, s.requires)) c.front_count-k.ensures) c.if-k-n.false
+    let w = c.args.ready.now in
+    let n = c.args.n in
+    front_none (held_in w n) _ (readable_is w n _ (omega (arith, c.requires)) c.front_count-k.ensures) c.if-k-n.false

@@ -15,32 +15,26 @@ long a = omega (arith, a.requires.0.whole_ready, a.requires.1.few_ready)
 
 -- the message's segments are among them
 within : (c : goal.After-copy_first-arg-1) → c.front_count-k.result ≤ c.args.arrival.ready
-within c = let a = c in
-    message_within a.args.ready.now _ _ (long a) c.front_count-k.ensures a.requires.3.complete
+within c = message_within c.args.ready.now _ _ (long c) c.front_count-k.ensures c.requires.3.complete
 
 pub copy_first-requires : goal.copy_first-requires
 copy_first-requires c =
-    let k = c in
-    let a = k in
-    let w = a.args.ready.now in
-    let e = message_words w a.args.arrival.ready _ (long a) k.front_count-k.ensures (within k) in (
-      a.requires.0.whole_ready,
-      omega (arith, within k, a.requires.1.few_ready),
-      rw e (in_pool_take _ _ (front_count (held_in w a.args.arrival.ready)) (held_in w a.args.arrival.ready) a.requires.2),
-      rw e a.requires.3.within,
+    let w = c.args.ready.now in
+    let e = message_words w c.args.arrival.ready _ (long c) c.front_count-k.ensures (within c) in (
+      c.requires.0.whole_ready,
+      omega (arith, within c, c.requires.1.few_ready),
+      rw e (in_pool_take _ _ (front_count (held_in w c.args.arrival.ready)) (held_in w c.args.arrival.ready) c.requires.2),
+      rw e c.requires.3.within,
     )
 
 pub returns : goal.returns
 returns c =
-    let k = c in
-    let a = k in
     let f = c.freed.ensures in
     record {
       whole = f.whole;
       counts = f.counts;
       same_acks = f.same_acks;
-      reads = λ acks. f.reads acks (sym k.front_count-k.ensures);
-      bytes = rw (message_words a.args.ready.now a.args.arrival.ready _ (let long' : a.args.arrival.ready ≤ length a.args.ready.now = omega (arith, a.requires.0.whole_ready, a.requires.1.few_ready) in long') k.front_count-k.ensures (let within' : k.front_count-k.result ≤ k.args.arrival.ready = let a = k in
-          message_within a.args.ready.now _ _ (let long' : a.args.arrival.ready ≤ length a.args.ready.now = omega (arith, a.requires.0.whole_ready, a.requires.1.few_ready) in long') k.front_count-k.ensures a.requires.3.complete in within')) at
+      reads = λ acks. f.reads acks (sym c.front_count-k.ensures);
+      bytes = rw (message_words c.args.ready.now c.args.arrival.ready _ (omega (arith, c.requires.0.whole_ready, c.requires.1.few_ready)) c.front_count-k.ensures (message_within c.args.ready.now _ _ (omega (arith, c.requires.0.whole_ready, c.requires.1.few_ready)) c.front_count-k.ensures c.requires.3.complete)) at
           c.copy_first.ensures;
     }

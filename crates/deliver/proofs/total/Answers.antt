@@ -7,16 +7,13 @@ use Rattle.deliver.proofs.Copies.{total_more, total_end}
 use Rattle.deliver.proofs.total.Goals as goal
 
 pub loop-i-preserved : goal.loop-i-preserved
-loop-i-preserved c =
-    let l = c in
-    let a = l in (
-      search rules,
-      search rules,
-      total_more a.args.ready.now a.args.k l.loop-i.i _ l.loop-i.sum l.loop-i.invariant.2 _
-          c.loop-i-test.true (omega (arith, a.requires)) c.len_of-sum.ensures.0,
-    )
+loop-i-preserved c = (
+  search rules,
+  search rules,
+  total_more c.args.ready.now c.args.k c.loop-i.i _ c.loop-i.sum c.loop-i.invariant.2 _
+      c.loop-i-test.true (omega (arith, c.requires)) c.len_of-sum.ensures.0,
+)
 
 pub returns : goal.returns
 returns c =
-    let l = c in
-    sym (total_end l.args.ready.now l.args.k l.loop-i.i _ l.loop-i.sum l.loop-i.invariant.2 c.loop-i-test.false)
+    sym (total_end c.args.ready.now c.args.k c.loop-i.i _ c.loop-i.sum c.loop-i.invariant.2 c.loop-i-test.false)

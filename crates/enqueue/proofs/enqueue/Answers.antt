@@ -10,9 +10,8 @@ use Rattle.enqueue.proofs.enqueue.Goals as goal
 
 pub overflow_add-full-2 : goal.overflow_add-full-2
 overflow_add-full-2 c =
-    let s = c in
-    let rest = length s.args.message.now - c.least-first.result in
-    omega (arith, c.segment_count-count.ensures, count_most s.args.stream s.args.mss rest s.requires.some, s.requires.held_most_lem, s.well_formed)
+    let rest = length c.args.message.now - c.least-first.result in
+    omega (arith, c.segment_count-count.ensures, count_most c.args.stream c.args.mss rest c.requires.some, c.requires.held_most_lem, c.well_formed)
 
 pub returns-then-long : goal.returns-then-long
 returns-then-long c t p = follows_long p _ _ c.last_room-room.ensures c.least-first.ensures
@@ -30,23 +29,21 @@ returns-then-full c t p =
 
 pub fill-requires : goal.fill-requires
 fill-requires c =
-    let s = c in
     let has = c.last_room-room.ensures in
     record {
-      whole = s.requires.whole;
-      most = s.requires.queued_most;
+      whole = c.requires.whole;
+      most = c.requires.queued_most;
       taken = c.least-first.ensures;
-      within = λ h. rw has (has_room s.args.stream s.args.mss s.args.queued.now s.args.n
-          (omega (arith, s.requires.whole, s.requires.queued_most)) (rw has at h));
-      low = s.requires.low;
-      word = s.requires.word;
-      slots = s.requires.slots;
+      within = λ h. rw has (has_room c.args.stream c.args.mss c.args.queued.now c.args.n
+          (omega (arith, c.requires.whole, c.requires.queued_most)) (rw has at h));
+      low = c.requires.low;
+      word = c.requires.word;
+      slots = c.requires.slots;
     }
 
 pub returns : goal.returns
 returns c t p =
     follows_placed p _ _ c.last_room-room.ensures c.least-first.ensures c.segment_count-count.ensures
-    (let short' : length c.args.message.now - c.least-first.result ≤ 127 * c.args.mss = c.if-long.false in short')
-    (let room' : c.args.m
-    + c.args.n + c.segment_count-count.result ≤ 128 = c.if-full.false in room') _ _ _ _ _
+    (c.if-long.false)
+    (c.if-full.false) _ _ _ _ _
     c.fill.ensures c.place-after.ensures

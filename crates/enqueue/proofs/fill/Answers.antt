@@ -10,16 +10,13 @@ returns-then-room-eq0 c = let p = c.requires in fills_none _ _ _ _ _ _ p.whole p
 
 -- the slot is one of the pool, and what is filled stays within it
 ends : (c : goal.After-copy_part-arg-1) →
-    let s = c in
-    (c.unpacked-last.result.slot * s.args.mss + s.args.mss ≤ length s.args.pool.now) ×
-    (c.unpacked-last.result.len + s.args.k ≤ s.args.mss)
+    (c.unpacked-last.result.slot * c.args.mss + c.args.mss ≤ length c.args.pool.now) ×
+    (c.unpacked-last.result.len + c.args.k ≤ c.args.mss)
 ends c =
-    let s = c in
-    let e = c in
-    fill_end (get_or s.args.queued.now (s.args.n - 1) 0) s.args.mss s.args.room s.args.k (length s.args.pool.now)
+    fill_end (get_or c.args.queued.now (c.args.n - 1) 0) c.args.mss c.args.room c.args.k (length c.args.pool.now)
     c.unpacked-last.ensures
-    (last_low s.args.queued.now s.args.n (let some' : 0 < e.args.n = (e.requires.within (let has' : 0 < e.args.room = omega (arith, e.if-room-eq0.false) in has')).0 in some') s.requires.most s.requires.whole s.requires.low) (s.requires.within (let has' : 0 < e.args.room = omega (arith, e.if-room-eq0.false) in has')).1
-    (omega (arith, s.requires.taken)) s.requires.slots
+    (last_low c.args.queued.now c.args.n ((c.requires.within (omega (arith, c.if-room-eq0.false))).0) c.requires.most c.requires.whole c.requires.low) (c.requires.within (omega (arith, c.if-room-eq0.false))).1
+    (omega (arith, c.requires.taken)) c.requires.slots
 
 pub copy_part-requires : goal.copy_part-requires
 copy_part-requires c =
@@ -29,10 +26,8 @@ copy_part-requires c =
 
 pub returns : goal.returns
 returns c =
-    let s = c in
-    let e = c in
-    fills_some s.args.mss s.args.queued.now s.args.n s.args.room s.args.pool.now s.args.message.now
-    s.requires.whole s.requires.most
-    c.unpacked-last.result c.word_of.result s.args.k _ (let some' : 0 < e.args.n = (e.requires.within (let has' : 0 < e.args.room = omega (arith, e.if-room-eq0.false) in has')).0 in some') (let has' : 0 < e.args.room = omega (arith, e.if-room-eq0.false) in has')
-    s.requires.taken c.unpacked-last.ensures c.word_of.ensures
+    fills_some c.args.mss c.args.queued.now c.args.n c.args.room c.args.pool.now c.args.message.now
+    c.requires.whole c.requires.most
+    c.unpacked-last.result c.word_of.result c.args.k _ ((c.requires.within (omega (arith, c.if-room-eq0.false))).0) (omega (arith, c.if-room-eq0.false))
+    c.requires.taken c.unpacked-last.ensures c.word_of.ensures
     c.copy_part.ensures

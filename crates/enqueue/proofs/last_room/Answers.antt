@@ -7,12 +7,11 @@ use Rattle.enqueue.proofs.last_room.Goals as goal
 
 pub returns-then-n-gt0 : goal.returns-then-n-gt0
 returns-then-n-gt0 c =
-    let s = c in
     let stream = c.if-stream.true in
     let some = c.if-n-gt0.true in
     omega (
       arith,
-      room_some s.args.stream stream s.args.mss s.args.queued.now s.args.n some (omega (arith, s.requires.0, s.requires.1)),
+      room_some c.args.stream stream c.args.mss c.args.queued.now c.args.n some (omega (arith, c.requires.0, c.requires.1)),
       c.least.ensures,
       ap (λ (h : Held). h.len) c.unpacked-last.ensures,
     )

@@ -4,18 +4,15 @@ use Rattle.input_core.proofs.Takes.{takes_all}
 use Rattle.input_core.proofs.hear.Goals as goal
 
 pub returns : goal.returns
-returns c =
-    let received = c in
-    let sent = received in
-    let start = sent in (
-      takes_all (link_of start.args.settings start.args.flight start.args.arrival start.args.clock _) _ _ _ _
-          sent.hear-sent.result _ _ _ _ _ _ _ _ _ _
-          start.requires.2.1
-          sent.hear-sent.ensures.0
-          received.hear-received.ensures.1
-          start.requires.0.counts
-          received.hear-received.auto.acks
-          _
-          c.grown-after.ensures,
-      sent.hear-sent.ensures.1,
-    )
+returns c = (
+  takes_all (link_of c.args.settings c.args.flight c.args.arrival c.args.clock _) _ _ _ _
+      c.hear-sent.result _ _ _ _ _ _ _ _ _ _
+      c.requires.2.1
+      c.hear-sent.ensures.0
+      c.hear-received.ensures.1
+      c.requires.0.counts
+      c.hear-received.auto.acks
+      _
+      c.grown-after.ensures,
+  c.hear-sent.ensures.1,
+)

@@ -10,19 +10,16 @@ pub bounds-marks-from : goal.bounds-marks-from
 bounds-marks-from c = search (rules, slot_low 128 c.args.marks.now c.args.from c.requires.2)
 
 pub returns-then-marks-from-eq0 : goal.returns-then-marks-from-eq0
-returns-then-marks-from-eq0 c = let s = c in
-    free_stop 128 s.args.marks.now s.args.from _ (omega arith) refl s.requires.2 c.if-marks-from-eq0.true
+returns-then-marks-from-eq0 c = free_stop 128 c.args.marks.now c.args.from _ (omega arith) refl c.requires.2 c.if-marks-from-eq0.true
 
 pub loop-next-preserved : goal.loop-next-preserved
-loop-next-preserved c = let l = c in
-    let v = l.loop-next.invariant in
-    let m = l.args.marks.now in (
+loop-next-preserved c = let v = c.loop-next.invariant in
+    let m = c.args.marks.now in (
       v.0,
-      free_more 128 m l.loop-next.next _ (omega arith) v.1 v.0 c.loop-next-test.true,
-      further 128 m l.loop-next.next _ (omega arith) v.1 v.0 c.loop-next-test.true,
+      free_more 128 m c.loop-next.next _ (omega arith) v.1 v.0 c.loop-next-test.true,
+      further 128 m c.loop-next.next _ (omega arith) v.1 v.0 c.loop-next-test.true,
     )
 
 pub returns : goal.returns
-returns c = let l = c in
-    free_stop 128 l.args.marks.now l.loop-next.next _ (omega arith) l.loop-next.invariant.1 l.loop-next.invariant.0
+returns c = free_stop 128 c.args.marks.now c.loop-next.next _ (omega arith) c.loop-next.invariant.1 c.loop-next.invariant.0
     c.loop-next-test.false

@@ -7,11 +7,10 @@ use Rattle.marks.proofs.mark.Goals as goal
 
 pub loop-i-preserved : goal.loop-i-preserved
 loop-i-preserved c =
-    let start = c in
     let v = c.loop-i in (
       search rules,
       marking_next v.invariant.1 c.slot_of-slot.result c.slot_of-slot.ensures.0
-          c.loop-i-test.true (omega (arith, start.requires)),
+          c.loop-i-test.true (omega (arith, c.requires)),
     )
 
 pub returns : goal.returns

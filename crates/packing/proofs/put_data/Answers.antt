@@ -31,7 +31,4 @@ payload_puts mtu n h k q out lengths headed lengths' out' pool from len p e enou
 
 pub returns : goal.returns
 returns c =
-    let copied = c in
-    let headed = copied in
-    let entry = headed in
-    payload_puts _ _ _ _ _ _ _ _ _ _ _ _ _ headed.put_header-behind.ensures copied.copy_part.ensures entry.requires.2
+    payload_puts _ _ _ _ _ _ _ _ _ _ _ _ _ c.put_header-behind.ensures c.copy_part.ensures c.requires.2

@@ -32,6 +32,4 @@ header_puts mtu n h k room out lengths out' lengths' ok m w enough =
 
 pub returns : goal.returns
 returns c =
-    let wrote = c in
-    let made = wrote in
-    header_puts _ _ _ _ _ _ _ _ _ _ made.make_room-room.ensures wrote.write_header.ensures (search rules)
+    header_puts _ _ _ _ _ _ _ _ _ _ c.make_room-room.ensures c.write_header.ensures (search rules)

@@ -5,5 +5,4 @@ use Rattle.record_words.proofs.at.Goals as goal
 
 pub returns : goal.returns
 returns c =
-    let start = c in
-    records_at start.args.i start.args.records.now (omega (arith, start.requires.0, start.requires.1))
+    records_at c.args.i c.args.records.now (omega (arith, c.requires.0, c.requires.1))

@@ -5,17 +5,15 @@ use Rattle.settings_file.proofs.put_file.Goals as goal
 
 pub returns-then-fits_first : goal.returns-then-fits_first
 returns-then-fits_first c =
-    let front = c in
     first_put _ _
-    (sym front.fits_first.ensures ∙ front.if-fits_first.true)
-    front.put_front.ensures
+    (sym c.fits_first.ensures ∙ c.if-fits_first.true)
+    c.put_front.ensures
     c.put_back.ensures
 
 pub returns : goal.returns
 returns c =
-    let front = c in
     second_put _ _
-    (sym front.fits_first.ensures ∙ front.if-fits_first.false)
-    front.put_front-2.ensures
+    (sym c.fits_first.ensures ∙ c.if-fits_first.false)
+    c.put_front-2.ensures
     c.put_back-2.ensures
     c.put_added.ensures

@@ -8,14 +8,13 @@ use Rattle.checking.proofs.Turns.{near_next, near_end}
 use Rattle.checking.proofs.ahead.ascend.Goals as goal
 
 pub loop-i-preserved : goal.loop-i-preserved
-loop-i-preserved c = let s = c in (
+loop-i-preserved c = (
   search rules,
-  near_next s.args.numbers.now s.args.n _ _ c.loop-i.fit
-      c.loop-i.invariant.0 (omega (arith, s.requires)) c.loop-i.invariant.1
+  near_next c.args.numbers.now c.args.n _ _ c.loop-i.fit
+      c.loop-i.invariant.0 (omega (arith, c.requires)) c.loop-i.invariant.1
       c.follows-fit.result c.loop-i-test.true c.follows-fit.ensures,
 )
 
 pub returns : goal.returns
-returns c = let s = c in
-    sym (near_end s.args.numbers.now s.args.n _ _ c.loop-i.fit c.loop-i.invariant.0 (omega (arith, s.requires))
+returns c = sym (near_end c.args.numbers.now c.args.n _ _ c.loop-i.fit c.loop-i.invariant.0 (omega (arith, c.requires))
     c.loop-i.invariant.1 c.loop-i-test.false)

@@ -8,16 +8,14 @@ use Rattle.checking.proofs.full.in_line.Goals as goal
 
 pub loop-i-preserved : goal.loop-i-preserved
 loop-i-preserved c =
-    let s = c in
     let l = c.loop-i in
-    let at : l.slot + 1 ≡ s.args.from + (l.i + 1) = omega (arith, l.invariant.0) in (
+    let at : l.slot + 1 ≡ c.args.from + (l.i + 1) = omega (arith, l.invariant.0) in (
       at,
-      line_next s.args.words.now s.args.from l.i _ l.fit s.requires.0 l.invariant.1 c.is_at-fit.result l.slot
+      line_next c.args.words.now c.args.from l.i _ l.fit c.requires.0 l.invariant.1 c.is_at-fit.result l.slot
           c.loop-i-test.true l.invariant.0 c.is_at-fit.ensures,
     )
 
 pub returns : goal.returns
 returns c =
-    let s = c in
     let l = c.loop-i in
-    sym (line_end s.args.words.now s.args.from l.i _ l.fit s.requires.0 l.invariant.1 c.loop-i-test.false)
+    sym (line_end c.args.words.now c.args.from l.i _ l.fit c.requires.0 l.invariant.1 c.loop-i-test.false)

@@ -11,16 +11,14 @@ returns-then-not-self c = sym (named_first _ _ _ _ (not-true _ c.if-not-self.tru
 
 pub returns : goal.returns
 returns c =
-    let q = c in
-    let a = q in
-    let rs = records_length 32 _ a.requires in
+    let rs = records_length 32 _ c.requires in
     rw (
       c.sum.ensures,
       c.earliest.ensures,
       c.held.ensures,
       take_held _ _ 32 rs,
-      q.least-most.ensures,
-      q.ahead.ensures,
-      q.corrected-next.ensures,
+      c.least-most.ensures,
+      c.ahead.ensures,
+      c.corrected-next.ensures,
     )
-    (sym (named_made _ _ _ _ (not-false _ q.if-not-self.false)))
+    (sym (named_made _ _ _ _ (not-false _ c.if-not-self.false)))
