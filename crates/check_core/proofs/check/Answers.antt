@@ -19,7 +19,8 @@ judged : (c : goal.After-check) (acks : List ℕ)
     let start = sizes in
     c.judged-verdict.result ≡ verdict_of sizes.enough-long.result (block_valid (let a = start.args in
     link_of a.settings a.flight a.arrival a.clock
-    (arrays a.queued.now a.outstanding.now a.transmissions.now a.ready.now a.waiting.now a.waiting_numbers.now)) (records_in start.args.records.now) acks)
+    (arrays a.queued.now a.outstanding.now a.transmissions.now a.ready.now a.waiting.now a.waiting_numbers.now))
+    (records_in start.args.records.now) acks)
 judged c acks =
     let fits = c in
     let sizes = fits in
@@ -27,7 +28,8 @@ judged c acks =
     let marked = start.requires.2 in
     (admitted (let a = start.args in
     link_of a.settings a.flight a.arrival a.clock
-    (arrays a.queued.now a.outstanding.now a.transmissions.now a.ready.now a.waiting.now a.waiting_numbers.now)) (records_in start.args.records.now) marked.0 marked.1.0 sizes.enough-long.result
+    (arrays a.queued.now a.outstanding.now a.transmissions.now a.ready.now a.waiting.now a.waiting_numbers.now))
+    (records_in start.args.records.now) marked.0 marked.1.0 sizes.enough-long.result
     start.args.sound fits.flight_fits-flown.result c.judged-verdict.result c.judged-verdict.ensures marked.1.1
     (record { whole = records_length 32 _ start.requires.1; fits = fits.flight_fits-flown.ensures })).verdict acks
 
@@ -41,7 +43,8 @@ returns-in-Passed c =
     let a = start.args in
     names (let a = start.args in
     link_of a.settings a.flight a.arrival a.clock
-    (arrays a.queued.now a.outstanding.now a.transmissions.now a.ready.now a.waiting.now a.waiting_numbers.now)) start.requires.0 (records_in a.records.now) a.acks.now _ _ _ sizes.enough-long.ensures (judged checks _)
+    (arrays a.queued.now a.outstanding.now a.transmissions.now a.ready.now a.waiting.now a.waiting_numbers.now)) start.requires.0
+    (records_in a.records.now) a.acks.now _ _ _ sizes.enough-long.ensures (judged checks _)
     a.t branch.in-Passed.is _
     (c.check.ensures
     ∙ ap (λ (s : Schedule). named s a.t a.settings.interval
@@ -55,18 +58,21 @@ returns-in-Refused c =
     let a = start.args in
     refuses (let a = start.args in
     link_of a.settings a.flight a.arrival a.clock
-    (arrays a.queued.now a.outstanding.now a.transmissions.now a.ready.now a.waiting.now a.waiting_numbers.now)) start.requires.0 (records_in a.records.now) a.acks.now _ _ _ sizes.enough-long.ensures ((let judged' : (acks : List ℕ)
+    (arrays a.queued.now a.outstanding.now a.transmissions.now a.ready.now a.waiting.now a.waiting_numbers.now)) start.requires.0
+    (records_in a.records.now) a.acks.now _ _ _ sizes.enough-long.ensures ((let judged' : (acks : List ℕ)
     → let sizes = checks in
     let start = sizes in
     checks.judged-verdict.result ≡ verdict_of sizes.enough-long.result (block_valid (let a = start.args in
     link_of a.settings a.flight a.arrival a.clock
-    (arrays a.queued.now a.outstanding.now a.transmissions.now a.ready.now a.waiting.now a.waiting_numbers.now)) (records_in start.args.records.now) acks) = λ acks. let fits = checks in
+    (arrays a.queued.now a.outstanding.now a.transmissions.now a.ready.now a.waiting.now a.waiting_numbers.now))
+    (records_in start.args.records.now) acks) = λ acks. let fits = checks in
     let sizes = fits in
     let start = sizes in
     let marked = start.requires.2 in
     (admitted (let a = start.args in
     link_of a.settings a.flight a.arrival a.clock
-    (arrays a.queued.now a.outstanding.now a.transmissions.now a.ready.now a.waiting.now a.waiting_numbers.now)) (records_in start.args.records.now) marked.0 marked.1.0 sizes.enough-long.result
+    (arrays a.queued.now a.outstanding.now a.transmissions.now a.ready.now a.waiting.now a.waiting_numbers.now))
+    (records_in start.args.records.now) marked.0 marked.1.0 sizes.enough-long.result
     start.args.sound fits.flight_fits-flown.result checks.judged-verdict.result checks.judged-verdict.ensures marked.1.1
     (record { whole = records_length 32 _ start.requires.1; fits = fits.flight_fits-flown.ensures })).verdict acks in judged') _)
     a.t _ c.in-Refused.is

@@ -11,7 +11,8 @@ use Rattle.deliver.proofs.copy_first.Given as goal
 
 abbrev pub invariant-loop-i : goal.invariant-loop-i
 invariant-loop-i l =
-    (l.i ≤ l.k) × (length l.out ≡ length l.initial.out) × Copying l.mss l.pool (rest l.ready l.k l.i) (sets l.initial.out 0 (joined_in l.mss l.pool (held_in l.ready l.k))) l.out l.at
+    (l.i ≤ l.k) × (length l.out ≡ length l.initial.out) × Copying l.mss l.pool (rest l.ready l.k l.i)
+    (sets l.initial.out 0 (joined_in l.mss l.pool (held_in l.ready l.k))) l.out l.at
 
 abbrev pub decreases-loop-i : goal.decreases-loop-i
 decreases-loop-i l = l.k - l.i

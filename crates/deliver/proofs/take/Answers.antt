@@ -35,6 +35,8 @@ returns c =
       counts = f.counts;
       same_acks = f.same_acks;
       reads = λ acks. f.reads acks (sym c.front_count-k.ensures);
-      bytes = rw (message_words c.args.ready.now c.args.arrival.ready _ (omega (arith, c.requires.0.whole_ready, c.requires.1.few_ready)) c.front_count-k.ensures (message_within c.args.ready.now _ _ (omega (arith, c.requires.0.whole_ready, c.requires.1.few_ready)) c.front_count-k.ensures c.requires.3.complete)) at
+      bytes = rw (message_words c.args.ready.now c.args.arrival.ready _ (omega (arith, c.requires.0.whole_ready, c.requires.1.few_ready))
+          c.front_count-k.ensures (message_within c.args.ready.now _ _ (omega (arith, c.requires.0.whole_ready, c.requires.1.few_ready))
+          c.front_count-k.ensures c.requires.3.complete)) at
           c.copy_first.ensures;
     }

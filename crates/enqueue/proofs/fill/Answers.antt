@@ -15,7 +15,8 @@ ends : (c : goal.After-copy_part-arg-1) →
 ends c =
     fill_end (get_or c.args.queued.now (c.args.n - 1) 0) c.args.mss c.args.room c.args.k (length c.args.pool.now)
     c.unpacked-last.ensures
-    (last_low c.args.queued.now c.args.n ((c.requires.within (omega (arith, c.if-room-eq0.false))).0) c.requires.most c.requires.whole c.requires.low) (c.requires.within (omega (arith, c.if-room-eq0.false))).1
+    (last_low c.args.queued.now c.args.n ((c.requires.within (omega (arith, c.if-room-eq0.false))).0) c.requires.most c.requires.whole
+    c.requires.low) (c.requires.within (omega (arith, c.if-room-eq0.false))).1
     (omega (arith, c.requires.taken)) c.requires.slots
 
 pub copy_part-requires : goal.copy_part-requires
@@ -28,6 +29,7 @@ pub returns : goal.returns
 returns c =
     fills_some c.args.mss c.args.queued.now c.args.n c.args.room c.args.pool.now c.args.message.now
     c.requires.whole c.requires.most
-    c.unpacked-last.result c.word_of.result c.args.k _ ((c.requires.within (omega (arith, c.if-room-eq0.false))).0) (omega (arith, c.if-room-eq0.false))
+    c.unpacked-last.result c.word_of.result c.args.k _ ((c.requires.within (omega (arith, c.if-room-eq0.false))).0)
+    (omega (arith, c.if-room-eq0.false))
     c.requires.taken c.unpacked-last.ensures c.word_of.ensures
     c.copy_part.ensures

@@ -28,15 +28,28 @@ pub free_to_send-slot-requires : goal.free_to_send-slot-requires
 free_to_send-slot-requires c = let v = c.loop-left.invariant in (v.4.marks_whole, v.3, omega (arith, slot_low c))
 
 pub store-len-requires : goal.store-len-requires
-store-len-requires c = let v = c.loop-left.invariant in
-    (v.0, omega (arith, (let slot_low' : next_free c.args.marks.now c.loop-left.slot < 128 = let v = c.loop-left.invariant in next_low (v.5 v.4.marked) c.loop-left-test.true in slot_low'), c.free_to_send-slot.ensures), omega (arith, v.1, v.4.slots))
+store-len-requires c = let v = c.loop-left.invariant in (
+  v.0,
+  omega (
+    arith,
+    (let slot_low' : next_free c.args.marks.now c.loop-left.slot < 128 = let v = c.loop-left.invariant in
+        next_low (v.5 v.4.marked) c.loop-left-test.true in slot_low'),
+    c.free_to_send-slot.ensures,
+  ),
+  omega (arith, v.1, v.4.slots),
+)
 
 -- the payload stored is short, and its slot a byte
 short : (c : goal.After-fragment_of) → c.store-len.result < 65536
 short c = omega (arith, stored_short c.store-len.ensures, c.loop-left.invariant.4.word)
 
 found : (c : goal.After-fragment_of) → c.free_to_send-slot.result < 128
-found c = omega (arith, (let slot_low' : next_free c.args.marks.now c.loop-left.slot < 128 = let v = c.loop-left.invariant in next_low (v.5 v.4.marked) c.loop-left-test.true in slot_low'), c.free_to_send-slot.ensures)
+found c = omega (
+  arith,
+  (let slot_low' : next_free c.args.marks.now c.loop-left.slot < 128 = let v = c.loop-left.invariant in
+      next_low (v.5 v.4.marked) c.loop-left-test.true in slot_low'),
+  c.free_to_send-slot.ensures,
+)
 
 pub word_of-requires : goal.word_of-requires
 word_of-requires c =
@@ -60,7 +73,15 @@ loop-left-preserved c =
       stored_within s v.0,
       search rules,
       search rules,
-      omega (arith, (let found' : c.free_to_send-slot.result < 128 = omega (arith, (let slot_low' : next_free c.args.marks.now c.loop-left.slot < 128 = let v = c.loop-left.invariant in next_low (v.5 v.4.marked) c.loop-left-test.true in slot_low'), c.free_to_send-slot.ensures) in found')),
+      omega (
+        arith,
+        (let found' : c.free_to_send-slot.result < 128 = omega (
+          arith,
+          (let slot_low' : next_free c.args.marks.now c.loop-left.slot < 128 = let v = c.loop-left.invariant in
+              next_low (v.5 v.4.marked) c.loop-left-test.true in slot_low'),
+          c.free_to_send-slot.ensures,
+        ) in found'),
+      ),
       v.4,
       λ h. placing_next c.word_of.result (v.5 h) t f (omega (arith, v.2, t)) s
           (c.word_of.ensures ∙ rw c.fragment_of.ensures),

@@ -17,7 +17,8 @@ invariant-loop-left l =
     × (l.slot ≤ 256)
     × Placeable l.mss l.initial.queued l.n l.marks l.initial.pool l.count
     × ((h : Marked l.marks (128 - l.count))
-    → Placing l.stream l.mss l.marks (place l.stream l.mss h.now l.initial.pool (pieces l.mss l.count (drop l.from l.message))) (held_in l.initial.queued l.n) l.queued l.pool
+    → Placing l.stream l.mss l.marks (place l.stream l.mss h.now l.initial.pool (pieces l.mss l.count (drop l.from l.message)))
+    (held_in l.initial.queued l.n) l.queued l.pool
     (drop l.at l.message) l.next l.slot l.left)
 
 abbrev pub decreases-loop-left : goal.decreases-loop-left

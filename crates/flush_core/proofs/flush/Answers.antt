@@ -17,7 +17,8 @@ judged : (c : goal.After-run-arg-in-Passed-5-1) (acks : List ℕ)
     c.judged-verdict.result ≡ verdict_of sizes.enough_to_flush-long.result
     (block_valid (let a = start.args in
     link_of a.settings a.flight a.arrival a.clock
-    (arrays a.queued.now a.outstanding.now a.transmissions.now a.ready.now a.waiting.now a.waiting_numbers.now)) (records_in start.args.records.now) acks)
+    (arrays a.queued.now a.outstanding.now a.transmissions.now a.ready.now a.waiting.now a.waiting_numbers.now))
+    (records_in start.args.records.now) acks)
 judged c acks =
     let fits = c in
     let sizes = fits in
@@ -25,7 +26,8 @@ judged c acks =
     let marked = start.requires.2 in
     (admitted (let a = start.args in
     link_of a.settings a.flight a.arrival a.clock
-    (arrays a.queued.now a.outstanding.now a.transmissions.now a.ready.now a.waiting.now a.waiting_numbers.now)) (records_in start.args.records.now) marked.0 marked.1.0 sizes.enough_to_flush-long.result
+    (arrays a.queued.now a.outstanding.now a.transmissions.now a.ready.now a.waiting.now a.waiting_numbers.now))
+    (records_in start.args.records.now) marked.0 marked.1.0 sizes.enough_to_flush-long.result
     start.args.sound fits.flight_fits-flown.result c.judged-verdict.result c.judged-verdict.ensures marked.1.1
     (record { whole = records_length 32 _ start.requires.1; fits = fits.flight_fits-flown.ensures })).verdict acks
 
@@ -54,15 +56,18 @@ returns-in-Passed c =
           checks.judged-verdict.result ≡ verdict_of sizes.enough_to_flush-long.result
           (block_valid (let a = start.args in
           link_of a.settings a.flight a.arrival a.clock
-          (arrays a.queued.now a.outstanding.now a.transmissions.now a.ready.now a.waiting.now a.waiting_numbers.now)) (records_in start.args.records.now) acks) = λ acks. let fits = checks in
+          (arrays a.queued.now a.outstanding.now a.transmissions.now a.ready.now a.waiting.now a.waiting_numbers.now))
+          (records_in start.args.records.now) acks) = λ acks. let fits = checks in
           let sizes = fits in
           let start = sizes in
           let marked = start.requires.2 in
           (admitted (let a = start.args in
           link_of a.settings a.flight a.arrival a.clock
-          (arrays a.queued.now a.outstanding.now a.transmissions.now a.ready.now a.waiting.now a.waiting_numbers.now)) (records_in start.args.records.now) marked.0 marked.1.0 sizes.enough_to_flush-long.result
+          (arrays a.queued.now a.outstanding.now a.transmissions.now a.ready.now a.waiting.now a.waiting_numbers.now))
+          (records_in start.args.records.now) marked.0 marked.1.0 sizes.enough_to_flush-long.result
           start.args.sound fits.flight_fits-flown.result checks.judged-verdict.result checks.judged-verdict.ensures marked.1.1
-          (record { whole = records_length 32 _ start.requires.1; fits = fits.flight_fits-flown.ensures })).verdict acks in judged') _) passed.in-Passed.is a.paced a.t
+          (record { whole = records_length 32 _ start.requires.1; fits = fits.flight_fits-flown.ensures })).verdict acks in judged') _)
+          passed.in-Passed.is a.paced a.t
           runs.run.result _ _ _ _
           (runs.run.ensures.0 a.ready.now a.waiting.now a.waiting_numbers.now start.requires.0.whole_ready),
       runs.run.ensures.1,
@@ -82,15 +87,18 @@ returns-in-Refused c =
           checks.judged-verdict.result ≡ verdict_of sizes.enough_to_flush-long.result
           (block_valid (let a = start.args in
           link_of a.settings a.flight a.arrival a.clock
-          (arrays a.queued.now a.outstanding.now a.transmissions.now a.ready.now a.waiting.now a.waiting_numbers.now)) (records_in start.args.records.now) acks) = λ acks. let fits = checks in
+          (arrays a.queued.now a.outstanding.now a.transmissions.now a.ready.now a.waiting.now a.waiting_numbers.now))
+          (records_in start.args.records.now) acks) = λ acks. let fits = checks in
           let sizes = fits in
           let start = sizes in
           let marked = start.requires.2 in
           (admitted (let a = start.args in
           link_of a.settings a.flight a.arrival a.clock
-          (arrays a.queued.now a.outstanding.now a.transmissions.now a.ready.now a.waiting.now a.waiting_numbers.now)) (records_in start.args.records.now) marked.0 marked.1.0 sizes.enough_to_flush-long.result
+          (arrays a.queued.now a.outstanding.now a.transmissions.now a.ready.now a.waiting.now a.waiting_numbers.now))
+          (records_in start.args.records.now) marked.0 marked.1.0 sizes.enough_to_flush-long.result
           start.args.sound fits.flight_fits-flown.result checks.judged-verdict.result checks.judged-verdict.ensures marked.1.1
-          (record { whole = records_length 32 _ start.requires.1; fits = fits.flight_fits-flown.ensures })).verdict acks in judged') _) _ answer.in-Refused.is a.t _
+          (record { whole = records_length 32 _ start.requires.1; fits = fits.flight_fits-flown.ensures })).verdict acks in judged') _) _
+          answer.in-Refused.is a.t _
           c.unflushed.ensures _ a.paced,
       start.requires.1,
     )

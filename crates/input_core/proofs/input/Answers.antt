@@ -21,15 +21,18 @@ returns-in-Refused c =
           (arrays a.queued.now a.outstanding.now a.transmissions.now a.ready.now a.waiting.now a.waiting_numbers.now)) _ _ _ _ _
           (refuses (let a = s.args in
           link_of a.settings a.flight a.arrival a.clock
-          (arrays a.queued.now a.outstanding.now a.transmissions.now a.ready.now a.waiting.now a.waiting_numbers.now)) _ _ _ _ _ _ _ _ sizes.enough-long.ensures (let judged' : let sizes = admit in let s = sizes in
+          (arrays a.queued.now a.outstanding.now a.transmissions.now a.ready.now a.waiting.now a.waiting_numbers.now)) _ _ _ _ _ _ _ _
+          sizes.enough-long.ensures (let judged' : let sizes = admit in let s = sizes in
           Admitted sizes.enough-long.result (let a = s.args in
           link_of a.settings a.flight a.arrival a.clock
-          (arrays a.queued.now a.outstanding.now a.transmissions.now a.ready.now a.waiting.now a.waiting_numbers.now)) (records_in s.args.records.now) s.requires.2.0 s.args.receive_marks.now
+          (arrays a.queued.now a.outstanding.now a.transmissions.now a.ready.now a.waiting.now a.waiting_numbers.now))
+          (records_in s.args.records.now) s.requires.2.0 s.args.receive_marks.now
           admit.judged-verdict.result = let fits = admit in
           let s = fits in
           admitted (let a = s.args in
           link_of a.settings a.flight a.arrival a.clock
-          (arrays a.queued.now a.outstanding.now a.transmissions.now a.ready.now a.waiting.now a.waiting_numbers.now)) _ _ _ _ s.args.sound _ _ admit.judged-verdict.ensures s.requires.2.1
+          (arrays a.queued.now a.outstanding.now a.transmissions.now a.ready.now a.waiting.now a.waiting_numbers.now)) _ _ _ _ s.args.sound
+          _ _ admit.judged-verdict.ensures s.requires.2.1
           (record { whole = records_length 32 _ s.requires.1; fits = fits.flight_fits-flown.ensures }) in judged')
           _ checks.mss-mss.ensures _ _ checks.checked_by-checked.ensures _ branch.in-Refused.is),
       s.requires.1,
@@ -45,20 +48,24 @@ hear-requires c =
     let verdict = (let judged' : let sizes = admit in let s = sizes in
     Admitted sizes.enough-long.result (let a = s.args in
     link_of a.settings a.flight a.arrival a.clock
-    (arrays a.queued.now a.outstanding.now a.transmissions.now a.ready.now a.waiting.now a.waiting_numbers.now)) (records_in s.args.records.now) s.requires.2.0 s.args.receive_marks.now
+    (arrays a.queued.now a.outstanding.now a.transmissions.now a.ready.now a.waiting.now a.waiting_numbers.now))
+    (records_in s.args.records.now) s.requires.2.0 s.args.receive_marks.now
     admit.judged-verdict.result = let fits = admit in
     let s = fits in
     admitted (let a = s.args in
     link_of a.settings a.flight a.arrival a.clock
-    (arrays a.queued.now a.outstanding.now a.transmissions.now a.ready.now a.waiting.now a.waiting_numbers.now)) _ _ _ _ s.args.sound _ _ admit.judged-verdict.ensures s.requires.2.1
+    (arrays a.queued.now a.outstanding.now a.transmissions.now a.ready.now a.waiting.now a.waiting_numbers.now)) _ _ _ _ s.args.sound _ _
+    admit.judged-verdict.ensures s.requires.2.1
     (record { whole = records_length 32 _ s.requires.1; fits = fits.flight_fits-flown.ensures }) in judged') in
     let passed = passes (let a = s.args in
     link_of a.settings a.flight a.arrival a.clock
-    (arrays a.queued.now a.outstanding.now a.transmissions.now a.ready.now a.waiting.now a.waiting_numbers.now)) _ _ s.args.receive_pool.now s.args.acks.now _ _ _ _ sizes.enough-long.ensures verdict
+    (arrays a.queued.now a.outstanding.now a.transmissions.now a.ready.now a.waiting.now a.waiting_numbers.now)) _ _ s.args.receive_pool.now
+    s.args.acks.now _ _ _ _ sizes.enough-long.ensures verdict
     _ checks.mss-mss.ensures _ _ checks.checked_by-checked.ensures _ branch.in_default.is in (
       hearable (let a = s.args in
           link_of a.settings a.flight a.arrival a.clock
-          (arrays a.queued.now a.outstanding.now a.transmissions.now a.ready.now a.waiting.now a.waiting_numbers.now)) _ _ _ _ _ _ _ _ sizes.enough-long.ensures verdict s.requires.0 passed.0 refl refl,
+          (arrays a.queued.now a.outstanding.now a.transmissions.now a.ready.now a.waiting.now a.waiting_numbers.now)) _ _ _ _ _ _ _ _
+          sizes.enough-long.ensures verdict s.requires.0 passed.0 refl refl,
       s.requires.1,
       (_, passed.1),
     )
@@ -74,19 +81,23 @@ returns c =
     let verdict = (let judged' : let sizes = admit in let s = sizes in
     Admitted sizes.enough-long.result (let a = s.args in
     link_of a.settings a.flight a.arrival a.clock
-    (arrays a.queued.now a.outstanding.now a.transmissions.now a.ready.now a.waiting.now a.waiting_numbers.now)) (records_in s.args.records.now) s.requires.2.0 s.args.receive_marks.now
+    (arrays a.queued.now a.outstanding.now a.transmissions.now a.ready.now a.waiting.now a.waiting_numbers.now))
+    (records_in s.args.records.now) s.requires.2.0 s.args.receive_marks.now
     admit.judged-verdict.result = let fits = admit in
     let s = fits in
     admitted (let a = s.args in
     link_of a.settings a.flight a.arrival a.clock
-    (arrays a.queued.now a.outstanding.now a.transmissions.now a.ready.now a.waiting.now a.waiting_numbers.now)) _ _ _ _ s.args.sound _ _ admit.judged-verdict.ensures s.requires.2.1
+    (arrays a.queued.now a.outstanding.now a.transmissions.now a.ready.now a.waiting.now a.waiting_numbers.now)) _ _ _ _ s.args.sound _ _
+    admit.judged-verdict.ensures s.requires.2.1
     (record { whole = records_length 32 _ s.requires.1; fits = fits.flight_fits-flown.ensures }) in judged') in
     let passed = passes (let a = s.args in
     link_of a.settings a.flight a.arrival a.clock
-    (arrays a.queued.now a.outstanding.now a.transmissions.now a.ready.now a.waiting.now a.waiting_numbers.now)) _ _ s.args.receive_pool.now s.args.acks.now _ _ _ _ sizes.enough-long.ensures verdict
+    (arrays a.queued.now a.outstanding.now a.transmissions.now a.ready.now a.waiting.now a.waiting_numbers.now)) _ _ s.args.receive_pool.now
+    s.args.acks.now _ _ _ _ sizes.enough-long.ensures verdict
     _ checks.mss-mss.ensures _ _ checks.checked_by-checked.ensures _ branch.in_default.is in (
       rw (admits (let a = s.args in
           link_of a.settings a.flight a.arrival a.clock
-          (arrays a.queued.now a.outstanding.now a.transmissions.now a.ready.now a.waiting.now a.waiting_numbers.now)) _ _ _ _ _ _ _ _ sizes.enough-long.ensures verdict _ passed.0) heard.hear.ensures.0,
+          (arrays a.queued.now a.outstanding.now a.transmissions.now a.ready.now a.waiting.now a.waiting_numbers.now)) _ _ _ _ _ _ _ _
+          sizes.enough-long.ensures verdict _ passed.0) heard.hear.ensures.0,
       heard.hear.ensures.1,
     )

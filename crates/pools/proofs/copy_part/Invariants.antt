@@ -8,7 +8,8 @@ use Rattle.pools.proofs.copy_part.Given as goal
 
 abbrev pub invariant-loop-i : goal.invariant-loop-i
 invariant-loop-i l =
-    (l.i ≤ l.len) × (length l.out ≡ length l.initial.out) × (sets l.out (l.at + l.i) (part l.src (l.from + l.i) (l.len - l.i)) ≡ sets l.initial.out l.at (part l.src l.from l.len))
+    (l.i ≤ l.len) × (length l.out ≡ length l.initial.out) ×
+    (sets l.out (l.at + l.i) (part l.src (l.from + l.i) (l.len - l.i)) ≡ sets l.initial.out l.at (part l.src l.from l.len))
 
 abbrev pub decreases-loop-i : goal.decreases-loop-i
 decreases-loop-i l = l.len - l.i

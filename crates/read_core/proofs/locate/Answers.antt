@@ -18,11 +18,13 @@ judged : (c : goal.After-front_place) (rs : List Record) → let sizes = c in le
     Flown (let a = s.args in link_of a.settings a.flight a.arrival a.clock
     (arrays a.queued.now a.outstanding.now a.transmissions.now a.ready.now a.waiting.now a.waiting_numbers.now)) rs s.args.flown
     → Admitted sizes.enough-long.result (let a = s.args in link_of a.settings a.flight a.arrival a.clock
-    (arrays a.queued.now a.outstanding.now a.transmissions.now a.ready.now a.waiting.now a.waiting_numbers.now)) rs s.requires.2.0 s.requires.2.1.0 c.judged-verdict.result
+    (arrays a.queued.now a.outstanding.now a.transmissions.now a.ready.now a.waiting.now a.waiting_numbers.now)) rs s.requires.2.0
+    s.requires.2.1.0 c.judged-verdict.result
 judged c rs w =
     let s = c in
     admitted (let a = s.args in link_of a.settings a.flight a.arrival a.clock
-    (arrays a.queued.now a.outstanding.now a.transmissions.now a.ready.now a.waiting.now a.waiting_numbers.now)) rs _ _ _ s.args.sound s.args.flown _ c.judged-verdict.ensures s.requires.2.1.1 w
+    (arrays a.queued.now a.outstanding.now a.transmissions.now a.ready.now a.waiting.now a.waiting_numbers.now)) rs _ _ _ s.args.sound
+    s.args.flown _ c.judged-verdict.ensures s.requires.2.1.1 w
 
 pub front_place-requires : goal.front_place-requires
 front_place-requires c =
@@ -30,17 +32,22 @@ front_place-requires c =
     let s = k in
     let ok = (let passed' : let s = k in
     Readable (let a = s.args in link_of a.settings a.flight a.arrival a.clock
-    (arrays a.queued.now a.outstanding.now a.transmissions.now a.ready.now a.waiting.now a.waiting_numbers.now)) s.args.receive_pool.now = let verdict = k in
+    (arrays a.queued.now a.outstanding.now a.transmissions.now a.ready.now a.waiting.now a.waiting_numbers.now))
+    s.args.receive_pool.now = let verdict = k in
     let s = verdict in
     passes_readable (let a = s.args in link_of a.settings a.flight a.arrival a.clock
-    (arrays a.queued.now a.outstanding.now a.transmissions.now a.ready.now a.waiting.now a.waiting_numbers.now)) s.requires.1.0 s.args.acks.now (let a = s.args in lent_lengths a.table a.send_pool.now a.receive_pool.now a.acks.now) _ verdict.enough-long.ensures _
+    (arrays a.queued.now a.outstanding.now a.transmissions.now a.ready.now a.waiting.now a.waiting_numbers.now)) s.requires.1.0
+    s.args.acks.now (let a = s.args in lent_lengths a.table a.send_pool.now a.receive_pool.now a.acks.now) _ verdict.enough-long.ensures _
     ((let judged' : (rs : List Record) → let sizes = verdict in let s = sizes in
     Flown (let a = s.args in link_of a.settings a.flight a.arrival a.clock
     (arrays a.queued.now a.outstanding.now a.transmissions.now a.ready.now a.waiting.now a.waiting_numbers.now)) rs s.args.flown
     → Admitted sizes.enough-long.result (let a = s.args in link_of a.settings a.flight a.arrival a.clock
-    (arrays a.queued.now a.outstanding.now a.transmissions.now a.ready.now a.waiting.now a.waiting_numbers.now)) rs s.requires.2.0 s.requires.2.1.0 verdict.judged-verdict.result = λ rs w. let s = verdict in
+    (arrays a.queued.now a.outstanding.now a.transmissions.now a.ready.now a.waiting.now a.waiting_numbers.now)) rs s.requires.2.0
+    s.requires.2.1.0 verdict.judged-verdict.result = λ rs w. let s = verdict in
     admitted (let a = s.args in link_of a.settings a.flight a.arrival a.clock
-    (arrays a.queued.now a.outstanding.now a.transmissions.now a.ready.now a.waiting.now a.waiting_numbers.now)) rs _ _ _ s.args.sound s.args.flown _ verdict.judged-verdict.ensures s.requires.2.1.1 w in judged') s.requires.1.0 s.requires.1.1).verdict k.in-Passed.is s.args.receive_pool.now refl in passed') in (
+    (arrays a.queued.now a.outstanding.now a.transmissions.now a.ready.now a.waiting.now a.waiting_numbers.now)) rs _ _ _ s.args.sound
+    s.args.flown _ verdict.judged-verdict.ensures s.requires.2.1.1 w in judged') s.requires.1.0 s.requires.1.1).verdict k.in-Passed.is
+    s.args.receive_pool.now refl in passed') in (
       s.requires.0.whole_ready,
       (block_counts (let a = s.args in link_of a.settings a.flight a.arrival a.clock
           (arrays a.queued.now a.outstanding.now a.transmissions.now a.ready.now a.waiting.now a.waiting_numbers.now)) ok.counts).ready,
@@ -55,16 +62,22 @@ returns-in-Passed c = λ rs w.
     let verdict = k in
     let s = verdict in
     placed (let a = s.args in link_of a.settings a.flight a.arrival a.clock
-    (arrays a.queued.now a.outstanding.now a.transmissions.now a.ready.now a.waiting.now a.waiting_numbers.now)) _ s.args.acks.now s.args.receive_pool.now _ _
+    (arrays a.queued.now a.outstanding.now a.transmissions.now a.ready.now a.waiting.now a.waiting_numbers.now)) _ s.args.acks.now
+    s.args.receive_pool.now _ _
     (passes (let a = s.args in link_of a.settings a.flight a.arrival a.clock
-    (arrays a.queued.now a.outstanding.now a.transmissions.now a.ready.now a.waiting.now a.waiting_numbers.now)) rs s.args.acks.now (let a = s.args in lent_lengths a.table a.send_pool.now a.receive_pool.now a.acks.now) _ verdict.enough-long.ensures _ (judged verdict rs w).verdict
+    (arrays a.queued.now a.outstanding.now a.transmissions.now a.ready.now a.waiting.now a.waiting_numbers.now)) rs s.args.acks.now
+    (let a = s.args in lent_lengths a.table a.send_pool.now a.receive_pool.now a.acks.now) _ verdict.enough-long.ensures _
+    (judged verdict rs w).verdict
     k.in-Passed.is) (let passed' : let s = k in
     Readable (let a = s.args in link_of a.settings a.flight a.arrival a.clock
-    (arrays a.queued.now a.outstanding.now a.transmissions.now a.ready.now a.waiting.now a.waiting_numbers.now)) s.args.receive_pool.now = let verdict = k in
+    (arrays a.queued.now a.outstanding.now a.transmissions.now a.ready.now a.waiting.now a.waiting_numbers.now))
+    s.args.receive_pool.now = let verdict = k in
     let s = verdict in
     passes_readable (let a = s.args in link_of a.settings a.flight a.arrival a.clock
-    (arrays a.queued.now a.outstanding.now a.transmissions.now a.ready.now a.waiting.now a.waiting_numbers.now)) s.requires.1.0 s.args.acks.now (let a = s.args in lent_lengths a.table a.send_pool.now a.receive_pool.now a.acks.now) _ verdict.enough-long.ensures _
-    (judged verdict s.requires.1.0 s.requires.1.1).verdict k.in-Passed.is s.args.receive_pool.now refl in passed') _ c.mss.ensures _ c.front_place.ensures
+    (arrays a.queued.now a.outstanding.now a.transmissions.now a.ready.now a.waiting.now a.waiting_numbers.now)) s.requires.1.0
+    s.args.acks.now (let a = s.args in lent_lengths a.table a.send_pool.now a.receive_pool.now a.acks.now) _ verdict.enough-long.ensures _
+    (judged verdict s.requires.1.0 s.requires.1.1).verdict k.in-Passed.is s.args.receive_pool.now refl in passed') _ c.mss.ensures _
+    c.front_place.ensures
 
 pub returns-in-Refused : goal.returns-in-Refused
 unfolding shows_with
@@ -72,11 +85,15 @@ returns-in-Refused c = λ rs w.
     let verdict = c in
     let s = verdict in
     unplaced _ _ (refuses (let a = s.args in link_of a.settings a.flight a.arrival a.clock
-    (arrays a.queued.now a.outstanding.now a.transmissions.now a.ready.now a.waiting.now a.waiting_numbers.now)) rs s.args.acks.now (let a = s.args in lent_lengths a.table a.send_pool.now a.receive_pool.now a.acks.now) _ verdict.enough-long.ensures _ ((let judged' : (rs : List Record) → let sizes = verdict in let s = sizes in
+    (arrays a.queued.now a.outstanding.now a.transmissions.now a.ready.now a.waiting.now a.waiting_numbers.now)) rs s.args.acks.now
+    (let a = s.args in lent_lengths a.table a.send_pool.now a.receive_pool.now a.acks.now) _ verdict.enough-long.ensures _
+    ((let judged' : (rs : List Record) → let sizes = verdict in let s = sizes in
     Flown (let a = s.args in link_of a.settings a.flight a.arrival a.clock
     (arrays a.queued.now a.outstanding.now a.transmissions.now a.ready.now a.waiting.now a.waiting_numbers.now)) rs s.args.flown
     → Admitted sizes.enough-long.result (let a = s.args in link_of a.settings a.flight a.arrival a.clock
-    (arrays a.queued.now a.outstanding.now a.transmissions.now a.ready.now a.waiting.now a.waiting_numbers.now)) rs s.requires.2.0 s.requires.2.1.0 verdict.judged-verdict.result = λ rs w. let s = verdict in
+    (arrays a.queued.now a.outstanding.now a.transmissions.now a.ready.now a.waiting.now a.waiting_numbers.now)) rs s.requires.2.0
+    s.requires.2.1.0 verdict.judged-verdict.result = λ rs w. let s = verdict in
     admitted (let a = s.args in link_of a.settings a.flight a.arrival a.clock
-    (arrays a.queued.now a.outstanding.now a.transmissions.now a.ready.now a.waiting.now a.waiting_numbers.now)) rs _ _ _ s.args.sound s.args.flown _ verdict.judged-verdict.ensures s.requires.2.1.1 w in judged') rs w).verdict
+    (arrays a.queued.now a.outstanding.now a.transmissions.now a.ready.now a.waiting.now a.waiting_numbers.now)) rs _ _ _ s.args.sound
+    s.args.flown _ verdict.judged-verdict.ensures s.requires.2.1.1 w in judged') rs w).verdict
     _ _ c.in-Refused.is) (length s.args.receive_pool.now)

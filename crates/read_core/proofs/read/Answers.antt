@@ -17,11 +17,13 @@ judged : (c : goal.After-slice_known-in-Passed-1) (rs : List Record) → let siz
     Flown (let a = s.args in link_of a.settings a.flight a.arrival a.clock
     (arrays a.queued.now a.outstanding.now a.transmissions.now a.ready.now a.waiting.now a.waiting_numbers.now)) rs s.args.flown
     → Admitted sizes.enough-long.result (let a = s.args in link_of a.settings a.flight a.arrival a.clock
-    (arrays a.queued.now a.outstanding.now a.transmissions.now a.ready.now a.waiting.now a.waiting_numbers.now)) rs s.requires.2.0 s.requires.2.1.0 c.judged-verdict.result
+    (arrays a.queued.now a.outstanding.now a.transmissions.now a.ready.now a.waiting.now a.waiting_numbers.now)) rs s.requires.2.0
+    s.requires.2.1.0 c.judged-verdict.result
 judged c rs w =
     let s = c in
     admitted (let a = s.args in link_of a.settings a.flight a.arrival a.clock
-    (arrays a.queued.now a.outstanding.now a.transmissions.now a.ready.now a.waiting.now a.waiting_numbers.now)) rs _ _ _ s.args.sound s.args.flown _ c.judged-verdict.ensures s.requires.2.1.1 w
+    (arrays a.queued.now a.outstanding.now a.transmissions.now a.ready.now a.waiting.now a.waiting_numbers.now)) rs _ _ _ s.args.sound
+    s.args.flown _ c.judged-verdict.ensures s.requires.2.1.1 w
 
 pub read_message-requires : goal.read_message-requires
 read_message-requires c =
@@ -32,32 +34,43 @@ read_message-requires c =
     let n = block_counts (let a = s.args in link_of a.settings a.flight a.arrival a.clock
     (arrays a.queued.now a.outstanding.now a.transmissions.now a.ready.now a.waiting.now a.waiting_numbers.now)) (let passed' : let s = k in
     Readable (let a = s.args in link_of a.settings a.flight a.arrival a.clock
-    (arrays a.queued.now a.outstanding.now a.transmissions.now a.ready.now a.waiting.now a.waiting_numbers.now)) s.args.receive_pool.now = let verdict = k in
+    (arrays a.queued.now a.outstanding.now a.transmissions.now a.ready.now a.waiting.now a.waiting_numbers.now))
+    s.args.receive_pool.now = let verdict = k in
     let s = verdict in
     passes_readable (let a = s.args in link_of a.settings a.flight a.arrival a.clock
-    (arrays a.queued.now a.outstanding.now a.transmissions.now a.ready.now a.waiting.now a.waiting_numbers.now)) s.requires.1.0 s.args.acks.now (let a = s.args in lent_lengths a.table a.send_pool.now a.receive_pool.now a.acks.now) _ verdict.enough-long.ensures _
+    (arrays a.queued.now a.outstanding.now a.transmissions.now a.ready.now a.waiting.now a.waiting_numbers.now)) s.requires.1.0
+    s.args.acks.now (let a = s.args in lent_lengths a.table a.send_pool.now a.receive_pool.now a.acks.now) _ verdict.enough-long.ensures _
     ((let judged' : (rs : List Record) → let sizes = verdict in let s = sizes in
     Flown (let a = s.args in link_of a.settings a.flight a.arrival a.clock
     (arrays a.queued.now a.outstanding.now a.transmissions.now a.ready.now a.waiting.now a.waiting_numbers.now)) rs s.args.flown
     → Admitted sizes.enough-long.result (let a = s.args in link_of a.settings a.flight a.arrival a.clock
-    (arrays a.queued.now a.outstanding.now a.transmissions.now a.ready.now a.waiting.now a.waiting_numbers.now)) rs s.requires.2.0 s.requires.2.1.0 verdict.judged-verdict.result = λ rs w. let s = verdict in
+    (arrays a.queued.now a.outstanding.now a.transmissions.now a.ready.now a.waiting.now a.waiting_numbers.now)) rs s.requires.2.0
+    s.requires.2.1.0 verdict.judged-verdict.result = λ rs w. let s = verdict in
     admitted (let a = s.args in link_of a.settings a.flight a.arrival a.clock
-    (arrays a.queued.now a.outstanding.now a.transmissions.now a.ready.now a.waiting.now a.waiting_numbers.now)) rs _ _ _ s.args.sound s.args.flown _ verdict.judged-verdict.ensures s.requires.2.1.1 w in judged') s.requires.1.0 s.requires.1.1).verdict k.in-Passed.is s.args.receive_pool.now refl in passed').counts in (
+    (arrays a.queued.now a.outstanding.now a.transmissions.now a.ready.now a.waiting.now a.waiting_numbers.now)) rs _ _ _ s.args.sound
+    s.args.flown _ verdict.judged-verdict.ensures s.requires.2.1.1 w in judged') s.requires.1.0 s.requires.1.1).verdict k.in-Passed.is
+    s.args.receive_pool.now refl in passed').counts in (
       record { whole_ready = w.whole_ready; whole_waiting = w.whole_waiting; whole_numbers = w.whole_numbers },
       record { few_ready = n.ready; few_waiting = n.waiting },
       rw mss.mss-mss.ensures (let passed' : let s = k in
           Readable (let a = s.args in link_of a.settings a.flight a.arrival a.clock
-          (arrays a.queued.now a.outstanding.now a.transmissions.now a.ready.now a.waiting.now a.waiting_numbers.now)) s.args.receive_pool.now = let verdict = k in
+          (arrays a.queued.now a.outstanding.now a.transmissions.now a.ready.now a.waiting.now a.waiting_numbers.now))
+          s.args.receive_pool.now = let verdict = k in
           let s = verdict in
           passes_readable (let a = s.args in link_of a.settings a.flight a.arrival a.clock
-          (arrays a.queued.now a.outstanding.now a.transmissions.now a.ready.now a.waiting.now a.waiting_numbers.now)) s.requires.1.0 s.args.acks.now (let a = s.args in lent_lengths a.table a.send_pool.now a.receive_pool.now a.acks.now) _ verdict.enough-long.ensures _
+          (arrays a.queued.now a.outstanding.now a.transmissions.now a.ready.now a.waiting.now a.waiting_numbers.now)) s.requires.1.0
+          s.args.acks.now (let a = s.args in lent_lengths a.table a.send_pool.now a.receive_pool.now a.acks.now) _
+          verdict.enough-long.ensures _
           ((let judged' : (rs : List Record) → let sizes = verdict in let s = sizes in
           Flown (let a = s.args in link_of a.settings a.flight a.arrival a.clock
           (arrays a.queued.now a.outstanding.now a.transmissions.now a.ready.now a.waiting.now a.waiting_numbers.now)) rs s.args.flown
           → Admitted sizes.enough-long.result (let a = s.args in link_of a.settings a.flight a.arrival a.clock
-          (arrays a.queued.now a.outstanding.now a.transmissions.now a.ready.now a.waiting.now a.waiting_numbers.now)) rs s.requires.2.0 s.requires.2.1.0 verdict.judged-verdict.result = λ rs w. let s = verdict in
+          (arrays a.queued.now a.outstanding.now a.transmissions.now a.ready.now a.waiting.now a.waiting_numbers.now)) rs s.requires.2.0
+          s.requires.2.1.0 verdict.judged-verdict.result = λ rs w. let s = verdict in
           admitted (let a = s.args in link_of a.settings a.flight a.arrival a.clock
-          (arrays a.queued.now a.outstanding.now a.transmissions.now a.ready.now a.waiting.now a.waiting_numbers.now)) rs _ _ _ s.args.sound s.args.flown _ verdict.judged-verdict.ensures s.requires.2.1.1 w in judged') s.requires.1.0 s.requires.1.1).verdict k.in-Passed.is s.args.receive_pool.now refl in passed').inside,
+          (arrays a.queued.now a.outstanding.now a.transmissions.now a.ready.now a.waiting.now a.waiting_numbers.now)) rs _ _ _ s.args.sound
+          s.args.flown _ verdict.judged-verdict.ensures s.requires.2.1.1 w in judged') s.requires.1.0 s.requires.1.1).verdict k.in-Passed.is
+          s.args.receive_pool.now refl in passed').inside,
     )
 
 pub returns-in-Passed : goal.returns-in-Passed
@@ -70,18 +83,23 @@ returns-in-Passed c = λ rs w.
     let s = verdict in
     let a = s.args in
     own_read (let a = s.args in link_of a.settings a.flight a.arrival a.clock
-    (arrays a.queued.now a.outstanding.now a.transmissions.now a.ready.now a.waiting.now a.waiting_numbers.now)) _ _ _ _ _ _ _ _ _ (passes (let a = s.args in link_of a.settings a.flight a.arrival a.clock
-    (arrays a.queued.now a.outstanding.now a.transmissions.now a.ready.now a.waiting.now a.waiting_numbers.now)) rs a.acks.now (let a = s.args in lent_lengths a.table a.send_pool.now a.receive_pool.now a.acks.now) _ verdict.enough-long.ensures _
+    (arrays a.queued.now a.outstanding.now a.transmissions.now a.ready.now a.waiting.now a.waiting_numbers.now)) _ _ _ _ _ _ _ _ _
+    (passes (let a = s.args in link_of a.settings a.flight a.arrival a.clock
+    (arrays a.queued.now a.outstanding.now a.transmissions.now a.ready.now a.waiting.now a.waiting_numbers.now)) rs a.acks.now
+    (let a = s.args in lent_lengths a.table a.send_pool.now a.receive_pool.now a.acks.now) _ verdict.enough-long.ensures _
     (judged verdict rs w).verdict k.in-Passed.is)
     (reads_block a.settings a.flight a.arrival a.clock a.queued.now a.outstanding.now a.transmissions.now
     a.ready.now a.waiting.now a.waiting_numbers.now _ a.acks.now a.receive_pool.now a.buffer.now _ _ _ _ _ _ _
     mss.mss-mss.ensures (let passed' : let s = k in
     Readable (let a = s.args in link_of a.settings a.flight a.arrival a.clock
-    (arrays a.queued.now a.outstanding.now a.transmissions.now a.ready.now a.waiting.now a.waiting_numbers.now)) s.args.receive_pool.now = let verdict = k in
+    (arrays a.queued.now a.outstanding.now a.transmissions.now a.ready.now a.waiting.now a.waiting_numbers.now))
+    s.args.receive_pool.now = let verdict = k in
     let s = verdict in
     passes_readable (let a = s.args in link_of a.settings a.flight a.arrival a.clock
-    (arrays a.queued.now a.outstanding.now a.transmissions.now a.ready.now a.waiting.now a.waiting_numbers.now)) s.requires.1.0 s.args.acks.now (let a = s.args in lent_lengths a.table a.send_pool.now a.receive_pool.now a.acks.now) _ verdict.enough-long.ensures _
-    (judged verdict s.requires.1.0 s.requires.1.1).verdict k.in-Passed.is s.args.receive_pool.now refl in passed') reads.read_message.ensures)
+    (arrays a.queued.now a.outstanding.now a.transmissions.now a.ready.now a.waiting.now a.waiting_numbers.now)) s.requires.1.0
+    s.args.acks.now (let a = s.args in lent_lengths a.table a.send_pool.now a.receive_pool.now a.acks.now) _ verdict.enough-long.ensures _
+    (judged verdict s.requires.1.0 s.requires.1.1).verdict k.in-Passed.is s.args.receive_pool.now refl in passed')
+    reads.read_message.ensures)
 
 pub returns-in-Refused : goal.returns-in-Refused
 unfolding reads_with
@@ -89,12 +107,16 @@ returns-in-Refused c = λ rs w.
     let verdict = c in
     let s = verdict in
     not_read _ _ (refuses (let a = s.args in link_of a.settings a.flight a.arrival a.clock
-    (arrays a.queued.now a.outstanding.now a.transmissions.now a.ready.now a.waiting.now a.waiting_numbers.now)) rs s.args.acks.now (let a = s.args in lent_lengths a.table a.send_pool.now a.receive_pool.now a.acks.now) _ verdict.enough-long.ensures _ ((let judged' : (rs : List Record) → let sizes = verdict in let s = sizes in
+    (arrays a.queued.now a.outstanding.now a.transmissions.now a.ready.now a.waiting.now a.waiting_numbers.now)) rs s.args.acks.now
+    (let a = s.args in lent_lengths a.table a.send_pool.now a.receive_pool.now a.acks.now) _ verdict.enough-long.ensures _
+    ((let judged' : (rs : List Record) → let sizes = verdict in let s = sizes in
     Flown (let a = s.args in link_of a.settings a.flight a.arrival a.clock
     (arrays a.queued.now a.outstanding.now a.transmissions.now a.ready.now a.waiting.now a.waiting_numbers.now)) rs s.args.flown
     → Admitted sizes.enough-long.result (let a = s.args in link_of a.settings a.flight a.arrival a.clock
-    (arrays a.queued.now a.outstanding.now a.transmissions.now a.ready.now a.waiting.now a.waiting_numbers.now)) rs s.requires.2.0 s.requires.2.1.0 verdict.judged-verdict.result = λ rs w. let s = verdict in
+    (arrays a.queued.now a.outstanding.now a.transmissions.now a.ready.now a.waiting.now a.waiting_numbers.now)) rs s.requires.2.0
+    s.requires.2.1.0 verdict.judged-verdict.result = λ rs w. let s = verdict in
     admitted (let a = s.args in link_of a.settings a.flight a.arrival a.clock
-    (arrays a.queued.now a.outstanding.now a.transmissions.now a.ready.now a.waiting.now a.waiting_numbers.now)) rs _ _ _ s.args.sound s.args.flown _ verdict.judged-verdict.ensures s.requires.2.1.1 w in judged') rs w).verdict
+    (arrays a.queued.now a.outstanding.now a.transmissions.now a.ready.now a.waiting.now a.waiting_numbers.now)) rs _ _ _ s.args.sound
+    s.args.flown _ verdict.judged-verdict.ensures s.requires.2.1.1 w in judged') rs w).verdict
     _ _ c.in-Refused.is) (let a = s.args in link_of a.settings a.flight a.arrival a.clock
     (arrays a.queued.now a.outstanding.now a.transmissions.now a.ready.now a.waiting.now a.waiting_numbers.now)) _ _ s.args.buffer.now

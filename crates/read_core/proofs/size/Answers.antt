@@ -17,18 +17,21 @@ judged : (c : goal.In-Passed) (rs : List Record) → let sizes = c in let s = si
     Flown (let a = s.args in link_of a.settings a.flight a.arrival a.clock
     (arrays a.queued.now a.outstanding.now a.transmissions.now a.ready.now a.waiting.now a.waiting_numbers.now)) rs s.args.flown
     → Admitted sizes.enough-long.result (let a = s.args in link_of a.settings a.flight a.arrival a.clock
-    (arrays a.queued.now a.outstanding.now a.transmissions.now a.ready.now a.waiting.now a.waiting_numbers.now)) rs s.requires.2.0 s.requires.2.1.0 c.judged-verdict.result
+    (arrays a.queued.now a.outstanding.now a.transmissions.now a.ready.now a.waiting.now a.waiting_numbers.now)) rs s.requires.2.0
+    s.requires.2.1.0 c.judged-verdict.result
 judged c rs w =
     let s = c in
     admitted (let a = s.args in link_of a.settings a.flight a.arrival a.clock
-    (arrays a.queued.now a.outstanding.now a.transmissions.now a.ready.now a.waiting.now a.waiting_numbers.now)) rs _ _ _ s.args.sound s.args.flown _ c.judged-verdict.ensures s.requires.2.1.1 w
+    (arrays a.queued.now a.outstanding.now a.transmissions.now a.ready.now a.waiting.now a.waiting_numbers.now)) rs _ _ _ s.args.sound
+    s.args.flown _ c.judged-verdict.ensures s.requires.2.1.1 w
 
 pub front_size-requires : goal.front_size-requires
 front_size-requires c =
     let verdict = c in
     let s = verdict in
     let ok = passes_readable (let a = s.args in link_of a.settings a.flight a.arrival a.clock
-    (arrays a.queued.now a.outstanding.now a.transmissions.now a.ready.now a.waiting.now a.waiting_numbers.now)) s.requires.1.0 s.args.acks.now (let a = s.args in lent_lengths a.table a.send_pool.now a.receive_pool.now a.acks.now) _ verdict.enough-long.ensures _
+    (arrays a.queued.now a.outstanding.now a.transmissions.now a.ready.now a.waiting.now a.waiting_numbers.now)) s.requires.1.0
+    s.args.acks.now (let a = s.args in lent_lengths a.table a.send_pool.now a.receive_pool.now a.acks.now) _ verdict.enough-long.ensures _
     (judged verdict s.requires.1.0 s.requires.1.1).verdict c.in-Passed.is s.args.receive_pool.now refl in
     let n = block_counts (let a = s.args in link_of a.settings a.flight a.arrival a.clock
     (arrays a.queued.now a.outstanding.now a.transmissions.now a.ready.now a.waiting.now a.waiting_numbers.now)) ok.counts in
@@ -40,15 +43,19 @@ returns-in-Passed c = λ rs w.
     let verdict = c in
     let s = verdict in
     tells_block (let a = s.args in link_of a.settings a.flight a.arrival a.clock
-    (arrays a.queued.now a.outstanding.now a.transmissions.now a.ready.now a.waiting.now a.waiting_numbers.now)) _ s.args.acks.now _ _ (passes (let a = s.args in link_of a.settings a.flight a.arrival a.clock
-    (arrays a.queued.now a.outstanding.now a.transmissions.now a.ready.now a.waiting.now a.waiting_numbers.now)) rs s.args.acks.now (let a = s.args in lent_lengths a.table a.send_pool.now a.receive_pool.now a.acks.now) _
+    (arrays a.queued.now a.outstanding.now a.transmissions.now a.ready.now a.waiting.now a.waiting_numbers.now)) _ s.args.acks.now _ _
+    (passes (let a = s.args in link_of a.settings a.flight a.arrival a.clock
+    (arrays a.queued.now a.outstanding.now a.transmissions.now a.ready.now a.waiting.now a.waiting_numbers.now)) rs s.args.acks.now
+    (let a = s.args in lent_lengths a.table a.send_pool.now a.receive_pool.now a.acks.now) _
     verdict.enough-long.ensures _ ((let judged' : (rs : List Record) → let sizes = verdict in let s = sizes in
     Flown (let a = s.args in link_of a.settings a.flight a.arrival a.clock
     (arrays a.queued.now a.outstanding.now a.transmissions.now a.ready.now a.waiting.now a.waiting_numbers.now)) rs s.args.flown
     → Admitted sizes.enough-long.result (let a = s.args in link_of a.settings a.flight a.arrival a.clock
-    (arrays a.queued.now a.outstanding.now a.transmissions.now a.ready.now a.waiting.now a.waiting_numbers.now)) rs s.requires.2.0 s.requires.2.1.0 verdict.judged-verdict.result = λ rs w. let s = verdict in
+    (arrays a.queued.now a.outstanding.now a.transmissions.now a.ready.now a.waiting.now a.waiting_numbers.now)) rs s.requires.2.0
+    s.requires.2.1.0 verdict.judged-verdict.result = λ rs w. let s = verdict in
     admitted (let a = s.args in link_of a.settings a.flight a.arrival a.clock
-    (arrays a.queued.now a.outstanding.now a.transmissions.now a.ready.now a.waiting.now a.waiting_numbers.now)) rs _ _ _ s.args.sound s.args.flown _ verdict.judged-verdict.ensures s.requires.2.1.1 w in judged') rs w).verdict c.in-Passed.is) c.front_size.result
+    (arrays a.queued.now a.outstanding.now a.transmissions.now a.ready.now a.waiting.now a.waiting_numbers.now)) rs _ _ _ s.args.sound
+    s.args.flown _ verdict.judged-verdict.ensures s.requires.2.1.1 w in judged') rs w).verdict c.in-Passed.is) c.front_size.result
     c.front_size.ensures
 
 pub returns-in-Refused : goal.returns-in-Refused
@@ -57,11 +64,15 @@ returns-in-Refused c = λ rs w.
     let verdict = c in
     let s = verdict in
     sym (refuses (let a = s.args in link_of a.settings a.flight a.arrival a.clock
-    (arrays a.queued.now a.outstanding.now a.transmissions.now a.ready.now a.waiting.now a.waiting_numbers.now)) rs s.args.acks.now (let a = s.args in lent_lengths a.table a.send_pool.now a.receive_pool.now a.acks.now) _ verdict.enough-long.ensures _ ((let judged' : (rs : List Record) → let sizes = verdict in let s = sizes in
+    (arrays a.queued.now a.outstanding.now a.transmissions.now a.ready.now a.waiting.now a.waiting_numbers.now)) rs s.args.acks.now
+    (let a = s.args in lent_lengths a.table a.send_pool.now a.receive_pool.now a.acks.now) _ verdict.enough-long.ensures _
+    ((let judged' : (rs : List Record) → let sizes = verdict in let s = sizes in
     Flown (let a = s.args in link_of a.settings a.flight a.arrival a.clock
     (arrays a.queued.now a.outstanding.now a.transmissions.now a.ready.now a.waiting.now a.waiting_numbers.now)) rs s.args.flown
     → Admitted sizes.enough-long.result (let a = s.args in link_of a.settings a.flight a.arrival a.clock
-    (arrays a.queued.now a.outstanding.now a.transmissions.now a.ready.now a.waiting.now a.waiting_numbers.now)) rs s.requires.2.0 s.requires.2.1.0 verdict.judged-verdict.result = λ rs w. let s = verdict in
+    (arrays a.queued.now a.outstanding.now a.transmissions.now a.ready.now a.waiting.now a.waiting_numbers.now)) rs s.requires.2.0
+    s.requires.2.1.0 verdict.judged-verdict.result = λ rs w. let s = verdict in
     admitted (let a = s.args in link_of a.settings a.flight a.arrival a.clock
-    (arrays a.queued.now a.outstanding.now a.transmissions.now a.ready.now a.waiting.now a.waiting_numbers.now)) rs _ _ _ s.args.sound s.args.flown _ verdict.judged-verdict.ensures s.requires.2.1.1 w in judged') rs w).verdict _ _
+    (arrays a.queued.now a.outstanding.now a.transmissions.now a.ready.now a.waiting.now a.waiting_numbers.now)) rs _ _ _ s.args.sound
+    s.args.flown _ verdict.judged-verdict.ensures s.requires.2.1.1 w in judged') rs w).verdict _ _
     c.in-Refused.is)

@@ -12,13 +12,17 @@ use Rattle.send_core.proofs.send.Goals as goal
 
 -- the verdict on 7 and 13
 judged : (c : goal.In-Refused) (rs : List Record) → let sizes = c in let s = sizes in
-    Flown (let a = s.args in link_of a.settings a.flight a.arrival a.clock (let a = s.args in arrays a.queued.now a.outstanding.now a.transmissions.now a.ready.now a.waiting.now
+    Flown (let a = s.args in link_of a.settings a.flight a.arrival a.clock
+    (let a = s.args in arrays a.queued.now a.outstanding.now a.transmissions.now a.ready.now a.waiting.now
     a.waiting_numbers.now)) rs s.args.flown
-    → Admitted sizes.enough-long.result (let a = s.args in link_of a.settings a.flight a.arrival a.clock (let a = s.args in arrays a.queued.now a.outstanding.now a.transmissions.now a.ready.now a.waiting.now
+    → Admitted sizes.enough-long.result (let a = s.args in
+    link_of a.settings a.flight a.arrival a.clock
+    (let a = s.args in arrays a.queued.now a.outstanding.now a.transmissions.now a.ready.now a.waiting.now
     a.waiting_numbers.now)) rs s.args.send_marks.now s.requires.2.0 c.judged-verdict.result
 judged c rs w =
     let s = c in
-    admitted (let a = s.args in link_of a.settings a.flight a.arrival a.clock (let a = s.args in arrays a.queued.now a.outstanding.now a.transmissions.now a.ready.now a.waiting.now
+    admitted (let a = s.args in link_of a.settings a.flight a.arrival a.clock
+    (let a = s.args in arrays a.queued.now a.outstanding.now a.transmissions.now a.ready.now a.waiting.now
     a.waiting_numbers.now)) rs _ _ _ s.args.sound s.args.flown _ c.judged-verdict.ensures s.requires.2.1 w
 
 pub send_checked-requires : goal.send_checked-requires
@@ -26,32 +30,42 @@ send_checked-requires c =
     let mss = c in
     let passed = mss in
     let s = passed in
-    enqueueable s.args.settings s.args.flight s.args.arrival s.args.clock (let a = s.args in arrays a.queued.now a.outstanding.now a.transmissions.now a.ready.now a.waiting.now
+    enqueueable s.args.settings s.args.flight s.args.arrival s.args.clock
+    (let a = s.args in arrays a.queued.now a.outstanding.now a.transmissions.now a.ready.now a.waiting.now
     a.waiting_numbers.now) s.requires.1.0 s.args.acks.now
     ((let checked' : (rs : List Record) → let s = passed in
-    Flown (let a = s.args in link_of a.settings a.flight a.arrival a.clock (let a = s.args in arrays a.queued.now a.outstanding.now a.transmissions.now a.ready.now a.waiting.now
+    Flown (let a = s.args in link_of a.settings a.flight a.arrival a.clock
+    (let a = s.args in arrays a.queued.now a.outstanding.now a.transmissions.now a.ready.now a.waiting.now
     a.waiting_numbers.now)) rs s.args.flown
-    → Sendable s.args.settings s.args.flight s.args.arrival s.args.clock (let a = s.args in arrays a.queued.now a.outstanding.now a.transmissions.now a.ready.now a.waiting.now
+    → Sendable s.args.settings s.args.flight s.args.arrival s.args.clock
+    (let a = s.args in arrays a.queued.now a.outstanding.now a.transmissions.now a.ready.now a.waiting.now
     a.waiting_numbers.now) rs s.args.acks.now (let a = s.args in lent_lengths a.table a.send_pool.now a.receive_pool.now a.acks.now)
     s.args.send_marks.now = λ rs w. let verdict = passed in
     let s = verdict in
     let a = (let judged' : (rs : List Record) → let sizes = verdict in let s = sizes in
-    Flown (let a = s.args in link_of a.settings a.flight a.arrival a.clock (let a = s.args in arrays a.queued.now a.outstanding.now a.transmissions.now a.ready.now a.waiting.now
+    Flown (let a = s.args in link_of a.settings a.flight a.arrival a.clock
+    (let a = s.args in arrays a.queued.now a.outstanding.now a.transmissions.now a.ready.now a.waiting.now
     a.waiting_numbers.now)) rs s.args.flown
-    → Admitted sizes.enough-long.result (let a = s.args in link_of a.settings a.flight a.arrival a.clock (let a = s.args in arrays a.queued.now a.outstanding.now a.transmissions.now a.ready.now a.waiting.now
+    → Admitted sizes.enough-long.result (let a = s.args in
+    link_of a.settings a.flight a.arrival a.clock
+    (let a = s.args in arrays a.queued.now a.outstanding.now a.transmissions.now a.ready.now a.waiting.now
     a.waiting_numbers.now)) rs s.args.send_marks.now s.requires.2.0 verdict.judged-verdict.result = λ rs w. let s = verdict in
-    admitted (let a = s.args in link_of a.settings a.flight a.arrival a.clock (let a = s.args in arrays a.queued.now a.outstanding.now a.transmissions.now a.ready.now a.waiting.now
+    admitted (let a = s.args in link_of a.settings a.flight a.arrival a.clock
+    (let a = s.args in arrays a.queued.now a.outstanding.now a.transmissions.now a.ready.now a.waiting.now
     a.waiting_numbers.now)) rs _ _ _ s.args.sound s.args.flown _ verdict.judged-verdict.ensures s.requires.2.1 w in judged') rs w in
-    sendable s.args.settings s.args.flight s.args.arrival s.args.clock (let a = s.args in arrays a.queued.now a.outstanding.now a.transmissions.now a.ready.now a.waiting.now
+    sendable s.args.settings s.args.flight s.args.arrival s.args.clock
+    (let a = s.args in arrays a.queued.now a.outstanding.now a.transmissions.now a.ready.now a.waiting.now
     a.waiting_numbers.now) rs s.args.acks.now (let a = s.args in lent_lengths a.table a.send_pool.now a.receive_pool.now a.acks.now) _ _
     verdict.enough-long.ensures (a.verdict _) passed.in-Passed.is
-    s.args.send_marks.now s.requires.2.0 (a.checked passed.in-Passed.is) s.requires.0 w.whole in checked') s.requires.1.0 s.requires.1.1) {stream = is_stream s.args.settings} refl mss.mss-mss.ensures s.requires.0 _ refl
+    s.args.send_marks.now s.requires.2.0 (a.checked passed.in-Passed.is) s.requires.0 w.whole in checked') s.requires.1.0 s.requires.1.1)
+    {stream = is_stream s.args.settings} refl mss.mss-mss.ensures s.requires.0 _ refl
 
 pub returns-in-Refused : goal.returns-in-Refused
 returns-in-Refused c = λ rs w.
     let verdict = c in
     let s = verdict in
-    refuses s.args.settings s.args.flight s.args.arrival s.args.clock (let a = s.args in arrays a.queued.now a.outstanding.now a.transmissions.now a.ready.now a.waiting.now
+    refuses s.args.settings s.args.flight s.args.arrival s.args.clock
+    (let a = s.args in arrays a.queued.now a.outstanding.now a.transmissions.now a.ready.now a.waiting.now
     a.waiting_numbers.now) rs s.args.acks.now (let a = s.args in lent_lengths a.table a.send_pool.now a.receive_pool.now a.acks.now) _ _
     verdict.enough-long.ensures ((judged verdict rs w).verdict _) _ _ _ c.in-Refused.is
 
@@ -62,31 +76,45 @@ returns-in-Passed c = λ rs w.
     let passed = mss in
     let verdict = passed in
     let s = verdict in
-    passes s.args.settings s.args.flight s.args.arrival s.args.clock (let a = s.args in arrays a.queued.now a.outstanding.now a.transmissions.now a.ready.now a.waiting.now
+    passes s.args.settings s.args.flight s.args.arrival s.args.clock
+    (let a = s.args in arrays a.queued.now a.outstanding.now a.transmissions.now a.ready.now a.waiting.now
     a.waiting_numbers.now) rs s.args.acks.now (let a = s.args in lent_lengths a.table a.send_pool.now a.receive_pool.now a.acks.now) _ _
     verdict.enough-long.ensures (((let judged' : (rs : List Record) → let sizes = verdict in let s = sizes in
-    Flown (let a = s.args in link_of a.settings a.flight a.arrival a.clock (let a = s.args in arrays a.queued.now a.outstanding.now a.transmissions.now a.ready.now a.waiting.now
+    Flown (let a = s.args in link_of a.settings a.flight a.arrival a.clock
+    (let a = s.args in arrays a.queued.now a.outstanding.now a.transmissions.now a.ready.now a.waiting.now
     a.waiting_numbers.now)) rs s.args.flown
-    → Admitted sizes.enough-long.result (let a = s.args in link_of a.settings a.flight a.arrival a.clock (let a = s.args in arrays a.queued.now a.outstanding.now a.transmissions.now a.ready.now a.waiting.now
+    → Admitted sizes.enough-long.result (let a = s.args in
+    link_of a.settings a.flight a.arrival a.clock
+    (let a = s.args in arrays a.queued.now a.outstanding.now a.transmissions.now a.ready.now a.waiting.now
     a.waiting_numbers.now)) rs s.args.send_marks.now s.requires.2.0 verdict.judged-verdict.result = λ rs w. let s = verdict in
-    admitted (let a = s.args in link_of a.settings a.flight a.arrival a.clock (let a = s.args in arrays a.queued.now a.outstanding.now a.transmissions.now a.ready.now a.waiting.now
-    a.waiting_numbers.now)) rs _ _ _ s.args.sound s.args.flown _ verdict.judged-verdict.ensures s.requires.2.1 w in judged') rs w).verdict _) passed.in-Passed.is _ _ _ _ _
-    (sent s.args.settings s.args.flight s.args.arrival s.args.clock (let a = s.args in arrays a.queued.now a.outstanding.now a.transmissions.now a.ready.now a.waiting.now
+    admitted (let a = s.args in link_of a.settings a.flight a.arrival a.clock
+    (let a = s.args in arrays a.queued.now a.outstanding.now a.transmissions.now a.ready.now a.waiting.now
+    a.waiting_numbers.now)) rs _ _ _ s.args.sound s.args.flown _ verdict.judged-verdict.ensures s.requires.2.1 w in judged') rs w).verdict
+    _) passed.in-Passed.is _ _ _ _ _
+    (sent s.args.settings s.args.flight s.args.arrival s.args.clock
+    (let a = s.args in arrays a.queued.now a.outstanding.now a.transmissions.now a.ready.now a.waiting.now
     a.waiting_numbers.now) rs s.args.acks.now ((let checked' : (rs : List Record) → let s = passed in
-    Flown (let a = s.args in link_of a.settings a.flight a.arrival a.clock (let a = s.args in arrays a.queued.now a.outstanding.now a.transmissions.now a.ready.now a.waiting.now
+    Flown (let a = s.args in link_of a.settings a.flight a.arrival a.clock
+    (let a = s.args in arrays a.queued.now a.outstanding.now a.transmissions.now a.ready.now a.waiting.now
     a.waiting_numbers.now)) rs s.args.flown
-    → Sendable s.args.settings s.args.flight s.args.arrival s.args.clock (let a = s.args in arrays a.queued.now a.outstanding.now a.transmissions.now a.ready.now a.waiting.now
+    → Sendable s.args.settings s.args.flight s.args.arrival s.args.clock
+    (let a = s.args in arrays a.queued.now a.outstanding.now a.transmissions.now a.ready.now a.waiting.now
     a.waiting_numbers.now) rs s.args.acks.now (let a = s.args in lent_lengths a.table a.send_pool.now a.receive_pool.now a.acks.now)
     s.args.send_marks.now = λ rs w. let verdict = passed in
     let s = verdict in
     let a = (let judged' : (rs : List Record) → let sizes = verdict in let s = sizes in
-    Flown (let a = s.args in link_of a.settings a.flight a.arrival a.clock (let a = s.args in arrays a.queued.now a.outstanding.now a.transmissions.now a.ready.now a.waiting.now
+    Flown (let a = s.args in link_of a.settings a.flight a.arrival a.clock
+    (let a = s.args in arrays a.queued.now a.outstanding.now a.transmissions.now a.ready.now a.waiting.now
     a.waiting_numbers.now)) rs s.args.flown
-    → Admitted sizes.enough-long.result (let a = s.args in link_of a.settings a.flight a.arrival a.clock (let a = s.args in arrays a.queued.now a.outstanding.now a.transmissions.now a.ready.now a.waiting.now
+    → Admitted sizes.enough-long.result (let a = s.args in
+    link_of a.settings a.flight a.arrival a.clock
+    (let a = s.args in arrays a.queued.now a.outstanding.now a.transmissions.now a.ready.now a.waiting.now
     a.waiting_numbers.now)) rs s.args.send_marks.now s.requires.2.0 verdict.judged-verdict.result = λ rs w. let s = verdict in
-    admitted (let a = s.args in link_of a.settings a.flight a.arrival a.clock (let a = s.args in arrays a.queued.now a.outstanding.now a.transmissions.now a.ready.now a.waiting.now
+    admitted (let a = s.args in link_of a.settings a.flight a.arrival a.clock
+    (let a = s.args in arrays a.queued.now a.outstanding.now a.transmissions.now a.ready.now a.waiting.now
     a.waiting_numbers.now)) rs _ _ _ s.args.sound s.args.flown _ verdict.judged-verdict.ensures s.requires.2.1 w in judged') rs w in
-    sendable s.args.settings s.args.flight s.args.arrival s.args.clock (let a = s.args in arrays a.queued.now a.outstanding.now a.transmissions.now a.ready.now a.waiting.now
+    sendable s.args.settings s.args.flight s.args.arrival s.args.clock
+    (let a = s.args in arrays a.queued.now a.outstanding.now a.transmissions.now a.ready.now a.waiting.now
     a.waiting_numbers.now) rs s.args.acks.now (let a = s.args in lent_lengths a.table a.send_pool.now a.receive_pool.now a.acks.now) _ _
     verdict.enough-long.ensures (a.verdict _) passed.in-Passed.is
     s.args.send_marks.now s.requires.2.0 (a.checked passed.in-Passed.is) s.requires.0 w.whole in checked') rs w)

@@ -7,7 +7,8 @@ use Rattle.tag_entry.proofs.put_zeros.Given as goal
 
 abbrev pub invariant-loop-i : goal.invariant-loop-i
 invariant-loop-i l =
-    (l.i ≤ l.len) × (length l.out ≡ length l.initial.out) × (sets l.out (l.at + l.i) (replicate (l.len - l.i) 0) ≡ sets l.initial.out l.at (replicate l.len 0))
+    (l.i ≤ l.len) × (length l.out ≡ length l.initial.out) ×
+    (sets l.out (l.at + l.i) (replicate (l.len - l.i) 0) ≡ sets l.initial.out l.at (replicate l.len 0))
 
 abbrev pub decreases-loop-i : goal.decreases-loop-i
 decreases-loop-i l = l.len - l.i

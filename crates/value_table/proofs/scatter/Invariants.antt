@@ -14,7 +14,8 @@ invariant-loop-i l =
     × (l.count ≤ 32)
     × (length l.next ≡ 128)
     × (length l.records ≡ 128)
-    × Left (take l.most l.next) (slots_in l.words l.n) (records_in l.records) l.i (scattered (take l.most l.initial.next) (slots_in l.words l.n) (records_in l.records))
+    × Left (take l.most l.next) (slots_in l.words l.n) (records_in l.records) l.i
+    (scattered (take l.most l.initial.next) (slots_in l.words l.n) (records_in l.records))
     × (drop l.most l.next ≡ drop l.most l.initial.next)
 
 abbrev pub decreases-loop-i : goal.decreases-loop-i

@@ -6,7 +6,8 @@ use Rattle.lists.proofs.Loops.{Packed}
 use Rattle.words.proofs.drop_first.Given as goal
 
 abbrev pub invariant-loop-i : goal.invariant-loop-i
-invariant-loop-i l = Packed 128 l.n l.initial.list l.list (drop l.i (take l.n l.initial.list)) (drop l.k (take l.n l.initial.list)) l.i l.j × (l.k + l.j ≡ l.i)
+invariant-loop-i l = Packed 128 l.n l.initial.list l.list (drop l.i (take l.n l.initial.list)) (drop l.k (take l.n l.initial.list)) l.i
+    l.j × (l.k + l.j ≡ l.i)
 
 abbrev pub decreases-loop-i : goal.decreases-loop-i
 decreases-loop-i l = l.n - l.i

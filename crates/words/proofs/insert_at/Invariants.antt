@@ -7,7 +7,8 @@ use Rattle.words.proofs.insert_at.Given as goal
 
 abbrev pub invariant-loop-j : goal.invariant-loop-j
 invariant-loop-j l =
-    Packed 128 l.n l.initial.list l.list (l.carried ∷ drop l.j (take l.n l.initial.list)) (take l.i (take l.n l.initial.list) ++ (l.word ∷ drop l.i (take l.n l.initial.list))) l.j l.j
+    Packed 128 l.n l.initial.list l.list (l.carried ∷ drop l.j (take l.n l.initial.list))
+    (take l.i (take l.n l.initial.list) ++ (l.word ∷ drop l.i (take l.n l.initial.list))) l.j l.j
 
 abbrev pub decreases-loop-j : goal.decreases-loop-j
 decreases-loop-j l = l.n - l.j

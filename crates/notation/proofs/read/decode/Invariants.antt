@@ -8,7 +8,8 @@ use Rattle.notation.proofs.read.decode.Given as goal
 
 abbrev pub invariant-loop-i : goal.invariant-loop-i
 invariant-loop-i l =
-    (l.i ≤ l.n) × (l.n ≡ length l.s / 2) × (length l.out ≡ length l.initial.out) × (sets l.out l.i (unhex (drop (2 * l.i) l.s)) ≡ sets l.initial.out 0 (unhex l.s))
+    (l.i ≤ l.n) × (l.n ≡ length l.s / 2) × (length l.out ≡ length l.initial.out) ×
+    (sets l.out l.i (unhex (drop (2 * l.i) l.s)) ≡ sets l.initial.out 0 (unhex l.s))
 
 abbrev pub decreases-loop-i : goal.decreases-loop-i
 decreases-loop-i l = l.n - l.i

@@ -9,7 +9,8 @@ use Rattle.transcript.proofs.link.outstanding.Given as goal
 
 abbrev pub invariant-loop-i : goal.invariant-loop-i
 invariant-loop-i l =
-    (l.i ≤ l.n) × (l.n ≡ min l.count 32) × Put l.initial.out l.at (each (outstanding_entry l.table) (take l.i (paired outstanding_at l.words l.transmissions))) l.here l.out
+    (l.i ≤ l.n) × (l.n ≡ min l.count 32) × Put l.initial.out l.at
+    (each (outstanding_entry l.table) (take l.i (paired outstanding_at l.words l.transmissions))) l.here l.out
 
 abbrev pub decreases-loop-i : goal.decreases-loop-i
 decreases-loop-i l = l.n - l.i
