@@ -5,8 +5,7 @@ use Rattle.protocol.specs.Ranges.{mss}
 use Rattle.protocol.specs.declared.Settings.{Settings}
 use Rattle.congestion.specs.Congestions.{after_datagram, Growable}
 use Rattle.timing.specs.declared.Record.{Record}
-use Rattle.datagram.specs.declared.Checked.{Checked}
-use Rattle.datagram.specs.declared.Checked.TheVariants as checked
+use Rattle.datagram.specs.Datagrams.{Checked}
 use Rattle.session.specs.State.{Outcome}
 use Rattle.session.specs.Input.{Took}
 use Rattle.control.specs.Views.{Arrays, arrays_of, link_of, Whole, counts_fit}
@@ -24,7 +23,7 @@ use Rattle.answers.specs.Answers.{Answer}
 -- what the checks of 7 and 13 say, then those of the datagram
 abbrev pub checked_by : Answer → Checked → Checked
 checked_by (Ok tt) x = x
-checked_by (Err q) x = checked.Refused q
+checked_by (Err q) x = Err q
 
 -- the segments in flight of a block, and its receiving half
 abbrev pub flight_of : Link → List Record → View
