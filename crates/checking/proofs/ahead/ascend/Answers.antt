@@ -1,9 +1,7 @@
 -- `ascend`: the neighbours before index i are tested.
 use mathlib.Core.Path.{sym}
-use Prim.Native.Nat.{◌-◌}
 use native.Mathlib.Omega.{arith}
 use borrow.Author.Rules.{rules}
-use Rattle.checking.specs.Tests.{neighbours}
 use Rattle.checking.proofs.Turns.{near_next, near_end}
 use Rattle.checking.proofs.ahead.ascend.Goals as goal
 

@@ -1,8 +1,7 @@
 -- `in_line`: the words before index i are tested.
 use mathlib.Core.Path.{◌≡◌, sym}
-use Prim.Native.Nat.{◌+◌, ◌-◌}
+use Prim.Native.Nat.{◌+◌}
 use native.Mathlib.Omega.{arith}
-use Rattle.checking.specs.Tests.{in_line}
 use Rattle.checking.proofs.Lines.{line_next, line_end}
 use Rattle.checking.proofs.full.in_line.Goals as goal
 
