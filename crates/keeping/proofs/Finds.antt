@@ -16,9 +16,9 @@ use Rattle.lists.specs.Orders.{waiting_offset, is_held, ascending}
 use Rattle.lists.specs.OrderLaws.{ascending_first, ascending_held}
 use Rattle.keeping.specs.Pushing.{is_in_window}
 use Rattle.keeping.proofs.Places.{searched}
-use Rattle.words.specs.Words.{paired, waiting_at, Placed}
+use Rattle.words.specs.Words.{paired, waiting_at, Placed, is_at}
 use Rattle.words.proofs.Pairs.{paired_length, paired_get, blank}
-use Rattle.keeping.specs.Keeping.{is_at, Ascends, Found}
+use Rattle.keeping.specs.Keeping.{Ascends, Found}
 
 ltb_suc : (i n : ℕ) → ltb (suc i) (suc n) ≡ ltb i n
 ltb_suc i n = go (dec_lt i n)

@@ -11,7 +11,7 @@ use Rattle.lists.specs.Views.{held_of, waiting_of}
 use Rattle.lists.specs.Orders.{waiting_offset, insert, ascending}
 use Rattle.lists.specs.Receiving.{starts_at, advance, ReceivingIs}
 use Rattle.pools.specs.Parts.{part}
-use Rattle.words.specs.Words.{paired, waiting_at, Placed}
+use Rattle.words.specs.Words.{paired, waiting_at, Placed, is_at}
 use Rattle.marks.specs.Marks.{next_free, Free}
 use Rattle.control.specs.declared.Arrival.{Arrival}
 use Rattle.keeping.specs.Pushing.{is_in_window, is_new_in, is_kept, used_by, slot_for, held_for, entry_of}
@@ -33,10 +33,6 @@ pub record Stored (marks : List ℕ) (k mss : ℕ) (s : List ℕ) (start : ℕ) 
     pub pool_after : pool' ≡ sets pool (slot * mss) (part s start h.len)
 
 -- ---- where a push goes among those that wait
-
--- index i is one of n, and the number there has that offset from base
-abbrev pub is_at : List ℕ → ℕ → ℕ → ℕ → ℕ → Bool
-is_at numbers n i base offset = ltb i n && eqb (minus (get_or numbers i 0) base) offset
 
 -- the numbers, with words beside them, are in order from base
 abbrev pub Ascends : ℕ → ℕ → List ℕ → List ℕ → Type 0

@@ -59,11 +59,12 @@ fn word_of(slot: usize, h: Header) -> u32
     requires { (slot < 256) × (h.len < 65536) }
     ensures { unpack result ≡ held_at slot h }
 {
-    words::pack(Held {
+    Held {
         slot: slot as u16,
         len: h.len as u16,
         fragment: h.frg,
-    })
+    }
+    .word()
 }
 
 // Where among those that wait a push goes: 256 where it is not kept.
@@ -73,8 +74,7 @@ fn index_for(numbers: &[u32; 128], n: usize, next: u32, sn: u32) -> usize
 {
     if in_window(next, sn) & !serial::before(sn, next) {
         let offset = serial::difference(sn, next);
-        let i = words::place(numbers, n, next, offset);
-        if !words::is_at(numbers, n, i, next, offset) {
+        if let Err(i) = words::place(&numbers[..n], next, offset) {
             return i;
         }
     }

@@ -45,11 +45,10 @@ insert_at-requires c =
     let w = c.requires.0 in
     let p = c.requires.1 in
     let f = c.index_for-i.ensures.place c.if-i-lt256.true in
-    let early = c.index_for-i.ensures.kept c.if-i-lt256.true a.waiting.now w.whole_waiting p.ascends in (
-      w.whole_waiting,
-      index_room _ _ _ _ _ _ _ _ p (search rules) (search rules) early a.arrival a.ready.now a.waiting.now a.numbers.now refl w _ f.0 f.1,
-      f.0.within,
-    )
+    let early = c.index_for-i.ensures.kept c.if-i-lt256.true a.waiting.now w.whole_waiting p.ascends in
+    let room = index_room _ _ _ _ _ _ _ _ p (search rules) (search rules) early a.arrival a.ready.now a.waiting.now a.numbers.now
+    refl w _ f.0 f.1 in
+    (search rules, (room, f.0.within))
 
 pub returns-then-i-lt256 : goal.returns-then-i-lt256
 returns-then-i-lt256 c =
