@@ -1,7 +1,7 @@
 // The lists of the receiving half in place: waiting segments become ready; the segments of a message that was read are freed.
 #![tactic(auto)]
 
-ghost use Rattle.std.specs.Prelude.{◌≡◌, ◌&&◌, ◌||◌, List, ◌++◌, ℕ, ◌+◌, ◌≤◌, min, take, length, eqb, ltb};
+ghost use Rattle.std.specs.Prelude.{◌≡◌, ◌&&◌, ◌||◌, List, ◌++◌, ℕ, ◌+◌, ◌≤◌, take, length, eqb, ltb};
 ghost use Rattle.lists.specs.Receiving.{run_of};
 ghost use Rattle.lists.specs.Views.{held_of, waiting_of};
 ghost use Rattle.words.specs.Words.{paired, waiting_at, Front};
@@ -12,12 +12,6 @@ use control::Arrival;
 use protocol::serial;
 use words::drop_first;
 
-fn least(a: usize, b: usize) -> usize
-    ensures { result ≡ min a b }
-{
-    if a < b { a } else { b }
-}
-
 // How many of the first n numbers, from the front on, are next, next + 1 and so on.
 fn run(numbers: &[u32; 128], n: usize, next: u32) -> usize
     requires { (length numbers.now ≡ 128) × (n ≤ 128) }
@@ -25,16 +19,13 @@ fn run(numbers: &[u32; 128], n: usize, next: u32) -> usize
         result ≡ run_of next (take n (paired waiting_at words numbers.now))) }
 {
     let mut expected = next;
-    let mut i: usize = 0;
-    while i < n {
-        if serial::difference(numbers[i], expected) == 0 {
-            expected = serial::sum(expected, 1);
-            i += 1;
-        } else {
+    for i in 0..n {
+        if serial::difference(numbers[i], expected) != 0 {
             return i;
         }
+        expected = serial::sum(expected, 1);
     }
-    i
+    n
 }
 
 // The first k words of another list are put behind n of this one.
@@ -42,13 +33,7 @@ fn append_first(list: &mut [u32; 128], n: usize, other: &[u32; 128], k: usize)
     requires { (length list.old ≡ 128) × (length other.now ≡ 128) × (n + k ≤ 128) }
     ensures { Front 128 list.new (n + k) (take n list.old ++ take k other.now) }
 {
-    let mut j = n;
-    let mut i: usize = 0;
-    while i < k {
-        list[j] = other[i];
-        i += 1;
-        j += 1;
-    }
+    list[n..n + k].copy_from_slice(&other[..k]);
 }
 
 // The segment with the number expected next becomes ready, repeatedly, while fewer than 128 are ready.
@@ -66,7 +51,7 @@ pub fn advance(
 {
     let n = arrival.ready;
     let m = arrival.waiting;
-    let most = least(128 - n, m);
+    let most = m.min(128 - n);
     let k = run(numbers, most, arrival.expected);
     if k == 0 {
         return arrival;
@@ -76,10 +61,9 @@ pub fn advance(
     drop_first(numbers, m, k);
     Arrival {
         expected: serial::sum(arrival.expected, k as u32),
-        tell: arrival.tell,
         ready: n + k,
         waiting: m - k,
-        acks: arrival.acks,
+        ..arrival
     }
 }
 
@@ -109,18 +93,12 @@ pub fn freed(
     let n = arrival.ready;
     drop_first(ready, n, k);
     let left = Arrival {
-        expected: arrival.expected,
-        tell: arrival.tell,
         ready: n - k,
-        waiting: arrival.waiting,
-        acks: arrival.acks,
+        ..arrival
     };
     let moved = advance(left, ready, waiting, numbers);
     Arrival {
-        expected: moved.expected,
         tell: tell_after(arrival.tell, n, moved.ready),
-        ready: moved.ready,
-        waiting: moved.waiting,
-        acks: moved.acks,
+        ..moved
     }
 }

@@ -46,9 +46,9 @@ fn close(packer: Packer, mtu: usize, lengths: &mut [u16]) -> Packer
     let n = packer.count;
     lengths[n] = (packer.at - packer.start) as u16;
     Packer {
-        at: packer.at,
         start: packer.at,
         count: n + 1,
+        ..packer
     }
 }
 
@@ -57,11 +57,11 @@ fn make_room(packer: Packer, mtu: usize, size: usize, lengths: &mut [u16]) -> Pa
     requires { Fills mtu packer × (size ≤ mtu) × (begun packer + 1 ≤ length lengths.old) }
     ensures { MakesRoom mtu size packer lengths.old result lengths.new }
 {
-    let fits = packer.at - packer.start + size <= mtu;
-    if fits {
-        return packer;
+    if packer.at - packer.start + size <= mtu {
+        packer
+    } else {
+        close(packer, mtu, lengths)
     }
-    close(packer, mtu, lengths)
 }
 
 // A header, with room for its payload behind it.
@@ -75,8 +75,7 @@ fn put_header(packer: Packer, mtu: usize, h: Header, out: &mut [u8], lengths: &m
     wire::codec::write_header(out, at, h);
     Packer {
         at: at + Protocol::HEADER,
-        start: room.start,
-        count: room.count,
+        ..room
     }
 }
 
@@ -138,14 +137,12 @@ pub fn put_data(
         len: held.len as u32,
     };
     let at = packer.at + Protocol::HEADER;
-    let next = at + len;
     let from = (held.slot as usize) * (mtu - Protocol::HEADER);
     let behind = put_header(packer, mtu, header, out, lengths);
     pools::copy_part(pool, from, len, out, at);
     Packer {
-        at: next,
-        start: behind.start,
-        count: behind.count,
+        at: at + len,
+        ..behind
     }
 }
 
@@ -155,7 +152,8 @@ pub fn finish(packer: Packer, mtu: usize, lengths: &mut [u16]) -> usize
     ensures { Finishes packer lengths.old result lengths.new }
 {
     if packer.at == packer.start {
-        return packer.count;
+        packer.count
+    } else {
+        close(packer, mtu, lengths).count
     }
-    close(packer, mtu, lengths).count
 }
