@@ -6,7 +6,7 @@ ghost use Rattle.lists.specs.Receiving.{run_of};
 ghost use Rattle.lists.specs.Views.{held_of, waiting_of};
 ghost use Rattle.words.specs.Words.{paired, waiting_at, Front};
 ghost use Rattle.control.specs.Views.{is_set};
-ghost use Rattle.arriving.specs.Arrivals.{ready_list, waiting_list, WholeLists, Fits, Advanced, Freed};
+ghost use Rattle.arriving.specs.Arrivals.{ready_list, waiting_list, Fits, Advanced, Freed};
 
 use control::Arrival;
 use protocol::serial;
@@ -14,7 +14,7 @@ use words::drop_first;
 
 // How many of the first n numbers, from the front on, are next, next + 1 and so on.
 fn run(numbers: &[u32; 128], n: usize, next: u32) -> usize
-    requires { (length numbers.now ≡ 128) × (n ≤ 128) }
+    requires { n ≤ 128 }
     ensures { (result ≤ n) × ((words : List ℕ) → length words ≡ 128 →
         result ≡ run_of next (take n (paired waiting_at words numbers.now))) }
 {
@@ -30,7 +30,7 @@ fn run(numbers: &[u32; 128], n: usize, next: u32) -> usize
 
 // The first k words of another list are put behind n of this one.
 fn append_first(list: &mut [u32; 128], n: usize, other: &[u32; 128], k: usize)
-    requires { (length list.old ≡ 128) × (length other.now ≡ 128) × (n + k ≤ 128) }
+    requires { n + k ≤ 128 }
     ensures { Front 128 list.new (n + k) (take n list.old ++ take k other.now) }
 {
     list[n..n + k].copy_from_slice(&other[..k]);
@@ -43,7 +43,7 @@ pub fn advance(
     waiting: &mut [u32; 128],
     numbers: &mut [u32; 128],
 ) -> Arrival
-    requires { WholeLists ready.old waiting.old numbers.old × Fits arrival }
+    requires { Fits arrival }
     ensures { Advanced arrival arrival.expected
         (held_of (ready_list ready.old arrival.ready))
         (waiting_of (waiting_list waiting.old numbers.old arrival.waiting))
@@ -51,7 +51,7 @@ pub fn advance(
 {
     let n = arrival.ready;
     let m = arrival.waiting;
-    let most = m.min(128 - n);
+    let most = (128 - n).min(m);
     let k = run(numbers, most, arrival.expected);
     if k == 0 {
         return arrival;
@@ -86,7 +86,7 @@ pub fn freed(
     waiting: &mut [u32; 128],
     numbers: &mut [u32; 128],
 ) -> Arrival
-    requires { WholeLists ready.old waiting.old numbers.old × Fits arrival × (k ≤ arrival.ready) }
+    requires { Fits arrival × (k ≤ arrival.ready) }
     ensures { Freed arrival k ready.old waiting.old numbers.old
         result ready.new waiting.new numbers.new }
 {

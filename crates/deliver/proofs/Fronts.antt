@@ -14,7 +14,8 @@ use Rattle.lists.proofs.Loops.{view_next, view_end}
 use Rattle.session.specs.Decides.{and_parts}
 use Rattle.session.specs.Reading.{front_count, readable}
 use Rattle.words.specs.Words.{unpack, held_in}
-use Rattle.arriving.proofs.Views.{take_map, held_length}
+use Rattle.std.proofs.lemmas.List.{take-map}
+use Rattle.arriving.proofs.Views.{held_length}
 use Rattle.deliver.specs.Messages.{front_of}
 
 module _ (ws : List ℕ) (k : ℕ) where
@@ -54,5 +55,5 @@ module _ (ws : List ℕ) (n r : ℕ) (g : n ≤ length ws) (e : r ≡ front_coun
 
   -- its segments are those of the first r words
   pub message_words : r ≤ n → held_in ws r ≡ front_of (held_in ws n)
-  message_words h = sym (ap (λ (j : ℕ). take j (held_in ws n)) (sym e) ∙ take_map unpack r (take n ws) ∙ ap (map unpack)
+  message_words h = sym (ap (λ (j : ℕ). take j (held_in ws n)) (sym e) ∙ take-map unpack r (take n ws) ∙ ap (map unpack)
       (take-take r n ws h))
