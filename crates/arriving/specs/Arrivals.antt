@@ -61,3 +61,6 @@ pub record Same (l l' : Incoming) : Type 0 where
 -- the arrays have their lengths
 abbrev pub Whole : Incoming → Type 0
 Whole l = WholeLists l.ready.now l.waiting.now l.numbers.now
+
+abbrev pub lists_in : Incoming → lists.Receiving
+lists_in l = lists_of l.arrival l.ready.now l.waiting.now l.numbers.now

@@ -24,12 +24,12 @@ use Rattle.session.specs.Decides.{and_parts}
 use Rattle.keeping.specs.Pushing.{is_in_window, is_kept, used_by, slot_for, held_at, entry_of}
 use Rattle.keeping.proofs.Orders.{advance_none, settled_insert, both, next_new, next_raised}
 use Rattle.keeping.proofs.Places.{new_free, new_fits}
-use Rattle.words.specs.Words.{unpack, waiting_at, waiting_in, paired, Front, Sides, Placed}
+use Rattle.words.specs.Words.{is_at, unpack, waiting_at, waiting_in, paired, Front, Sides, Placed}
 use Rattle.words.proofs.Pairs.{paired_take, insert_fits}
 use Rattle.control.specs.declared.Arrival.{Arrival}
 use Rattle.arriving.specs.Arrivals.{ready_list, waiting_list, lists_of, WholeLists, Advanced}
 use Rattle.std.proofs.lemmas.List.{take-map}
-use Rattle.keeping.specs.Keeping.{Storable, Stored, is_at, Keepable, Kept}
+use Rattle.keeping.specs.Keeping.{Storable, Stored, Keepable, Kept}
 use Rattle.marks.proofs.Frees.{free_lowest, free_low, free_next}
 
 -- ---- the slots held, with one more
