@@ -1,5 +1,6 @@
 -- What the checks say to taking in.
 -- Assumes nothing.
+use Rattle.std.specs.Prelude.{Ok, Err}
 use mathlib.Core.Path.{◌≡◌, refl, sym, ◌∙◌}
 use mathlib.Core.Bool.{Bool, true}
 use mathlib.Core.List.{List}
@@ -15,10 +16,8 @@ use Rattle.timing.specs.declared.Record.{Record}
 use Rattle.lists.specs.Orders.{sent_offset}
 use Rattle.sizes.specs.Sizes.{enough}
 use Rattle.sizes.specs.declared.Lengths.{Lengths}
-use Rattle.datagram.specs.Datagrams.{parse, counted}
+use Rattle.datagram.specs.Datagrams.{Checked, parse, counted}
 use Rattle.datagram.specs.StepLaws.{Begun}
-use Rattle.datagram.specs.declared.Checked.{Checked}
-use Rattle.datagram.specs.declared.Checked.TheVariants as checked
 use Rattle.session.specs.State.{refused}
 use Rattle.session.specs.Input.{input}
 use Rattle.session.specs.Decides.{and_parts, leb_decides, and_decides}
@@ -63,7 +62,7 @@ module _ (l : Link) (records : List Record) (n : Lengths) (pool acks send marks 
   -- x is what all checks say of the datagram s
   module _ (m : ℕ) (d : m ≡ mss l.settings) (s : List ℕ) (x : Checked)
       (w : x ≡ checked_by v (counted 0 (parse l.settings.conv m s))) where
-    pub refuses : (q : Refusal) → x ≡ checked.Refused q → takes_in_with l records acks n pool s ≡ refused q
+    pub refuses : (q : Refusal) → x ≡ Err q → takes_in_with l records acks n pool s ≡ refused q
     unfolding takes_in_with
     refuses q r = go v refl w
       where
@@ -74,7 +73,7 @@ module _ (l : Link) (records : List Record) (n : Lengths) (pool acks send marks 
             let same : z ≡ q = cc in
             rw (← e) (refused_by_lem _ long (block_valid l records acks) v q (a.verdict acks) (rw same at p))
 
-    pub passes : (k : ℕ) → x ≡ checked.Accepted k → (v ≡ Passed) × Begun l.settings.conv (mss l.settings) s k
+    pub passes : (k : ℕ) → x ≡ Ok k → (v ≡ Passed) × Begun l.settings.conv (mss l.settings) s k
     passes k r = go v refl w
       where
         go : (u : Verdict) → v ≡ u → x ≡ checked_by u (counted 0 (parse l.settings.conv m s))

@@ -1,5 +1,6 @@
 -- What both halves have heard, together, is the definition's input.
 -- Assumes nothing.
+use Rattle.std.specs.Prelude.{Ok, Err}
 use mathlib.Core.Path.{◌≡◌, refl, sym, ap, ◌∙◌}
 use mathlib.Core.Bool.{true}
 use mathlib.Core.List.{List}
@@ -10,10 +11,8 @@ use Rattle.protocol.specs.Ranges.{mss}
 use Rattle.protocol.specs.declared.Settings.{Settings}
 use Rattle.protocol.specs.declared.Refusal.{Refusal}
 use Rattle.timing.specs.declared.Record.{Record}
-use Rattle.datagram.specs.Datagrams.{parse, counted}
+use Rattle.datagram.specs.Datagrams.{Checked, parse, counted}
 use Rattle.datagram.specs.StepLaws.{Begun, accepted, was_refused}
-use Rattle.datagram.specs.declared.Checked.{Checked}
-use Rattle.datagram.specs.declared.Checked.TheVariants as checked
 use Rattle.session.specs.State.{Sending, Outcome, refused, done}
 use Rattle.session.specs.Input.{Receiver, Took, all_by_receiving, applied, input}
 use Rattle.answers.specs.declared.Answer.TheVariants as answer
@@ -40,11 +39,11 @@ module _ (c : Settings) (m : ℕ) (s : List ℕ) (v : Checked) (e : v ≡ counte
   verdict : v ≡ counted 0 (parse c.conv (mss c) s)
   verdict = rw q at e
 
-  pub begun : (n : ℕ) → v ≡ checked.Accepted n → Begun c.conv (mss c) s n
+  pub begun : (n : ℕ) → v ≡ Ok n → Begun c.conv (mss c) s n
   begun n r = accepted c.conv (mss c) s n (sym verdict ∙ r)
 
   -- refused, over a block with these settings
-  pub refused_over : (l : Link) (records : List Record) (acks pool : List ℕ) (x : Refusal) → l.settings ≡ c → v ≡ checked.Refused x
+  pub refused_over : (l : Link) (records : List Record) (acks pool : List ℕ) (x : Refusal) → l.settings ≡ c → v ≡ Err x
       → input (state_of l records acks) pool s ≡ refused x
   unfolding input state_of
   refused_over l records acks pool x k r = rw (k, was_refused 0 (parse c.conv (mss c) s) x (sym verdict ∙ r))

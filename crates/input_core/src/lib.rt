@@ -17,8 +17,7 @@ ghost use Rattle.input_core.specs.Taking.{checked_by, Hearable, grown_from, Take
 use answers::Answer;
 use checking::{Verdict, flights};
 use control::{Arrival, Clock, Flight};
-use datagram::Checked;
-use protocol::Settings;
+use protocol::{Refusal, Settings};
 use sizes::Lengths;
 
 // The answer, the numbers of both halves, and how many records go back into the table: the first ones, by their words.
@@ -43,12 +42,12 @@ fn grown(settings: Settings, before: Flight, after: Flight) -> Flight
 }
 
 // What the checks of 7 and 13 say, then those of the datagram, 1 to 6 and 14.
-fn checked_by(verdict: Verdict, datagram: &[u8], conv: u32, mss: usize) -> Checked
+fn checked_by(verdict: Verdict, datagram: &[u8], conv: u32, mss: usize) -> Result<usize, Refusal>
     ensures { result ≡ checked_by verdict (counted 0 (parse conv mss datagram.now)) }
 {
     match verdict {
         Verdict::Passed => datagram::check(datagram, conv, mss),
-        Verdict::Refused(refusal) => Checked::Refused(refusal),
+        Verdict::Refused(refusal) => Err(refusal),
     }
 }
 
@@ -162,7 +161,7 @@ pub fn input(
     let verdict = checking::judged(long, sound & flown);
     let mss = settings.mss();
     let checked = checked_by(verdict, datagram, settings.conv, mss);
-    if let Checked::Refused(q) = checked {
+    if let Err(q) = checked {
         return Taken {
             answer: Answer::Refused(q),
             flight,
