@@ -1,18 +1,15 @@
 -- The segments of words, and the message at their front.
 -- Assumes nothing.
 use mathlib.Core.Path.{◌≡◌, refl, sym, ap, ◌∙◌}
-use mathlib.Core.Bool.{true, false≢true}
 use mathlib.Core.List.{List, [], ◌∷◌, map}
 use Prim.Native.Nat.{ℕ, ◌+◌, ◌≤◌, ◌<◌}
-use native.Mathlib.Omega.{arith}
-use borrow.Author.Tests.{leb-true}
 use lib.ListN.{length, take, drop, get_or}
 use Rattle.std.proofs.Common.{add-one, drop-cons, sum}
 use Rattle.std.specs.List.{sum_by}
 use Rattle.std.proofs.lemmas.List.{take-map, drop_all}
 use Rattle.std.proofs.lemmas.List.Sums.{sum-map, sum_by-cons}
 use Rattle.lists.specs.declared.Held.{Held}
-use Rattle.session.specs.Reading.{front_count, readable, length_of}
+use Rattle.session.specs.Reading.{front_count, length_of}
 use Rattle.words.specs.Words.{unpack}
 use Rattle.deliver.specs.Messages.{front_of}
 
@@ -39,7 +36,3 @@ length_sum ws = sum-map _ ws ∙ go ws
 -- the message's segments
 pub front_words : (ws : List ℕ) (k : ℕ) → k ≡ front_count (map unpack ws) → map unpack (take k ws) ≡ front_of (map unpack ws)
 front_words ws k e = sym (take-map unpack k ws) ∙ ap (λ (j : ℕ). take j (map unpack ws)) e
-
-pub front_within : (l : List Held) (k : ℕ) → k ≡ front_count l → readable l ≡ true → k ≤ length l
-front_within [] k e t = absurd (false≢true t)
-front_within (h ∷ l) k e t = omega (arith, leb-true _ _ t)

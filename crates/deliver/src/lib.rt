@@ -74,12 +74,12 @@ pub fn front_size(ready: &[u32]) -> Answer<usize>
     Ok(total(&ready[..k]))
 }
 
-// The same, and 7 where it is longer than the room.
-pub fn fitting(ready: &[u32], room: usize) -> Answer<usize>
-    requires { length ready.now ≤ 128 }
-    ensures { count_outcome result ≡ fitting_of (map unpack ready.now) room }
+// The same of the first n words, and 7 where it is longer than the room.
+pub fn fitting(ready: &[u32; 128], n: usize, room: usize) -> Answer<usize>
+    requires { n ≤ 128 }
+    ensures { count_outcome result ≡ fitting_of (held_in ready.now n) room }
 {
-    let size = front_size(ready)?;
+    let size = front_size(&ready[..n])?;
     if room < size {
         return Err(Refusal::ShortPart);
     }
