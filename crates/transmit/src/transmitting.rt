@@ -8,7 +8,7 @@ ghost use Rattle.numbering.specs.Sents.{sent_in};
 ghost use Rattle.transmit.specs.Writing.{data_of, InSlot, sent_as, Sendable, Walks};
 
 use crate::{Flush, Walked};
-use lists::Sent;
+use lists::{Held, Sent};
 use packing::Packer;
 use protocol::Protocol;
 use retransmission::{Transmission, outstanding};
@@ -28,7 +28,7 @@ fn put_sent(
     ensures { Adds flush.settings.mtu (data_of flush pool.now (sent_as word x) ∷ []) flush.settings.mtu 1
         packer out.old lengths.old result out.new lengths.new }
 {
-    let held = words::unpacked(word);
+    let held = Held::from(word);
     let record = x.updated;
     let sent = Sent {
         held,

@@ -96,8 +96,8 @@ fn marks_of(link: Link) -> Marked
     let ready = link.ready;
     let waiting = link.waiting;
     let waiting_numbers = link.waiting_numbers;
-    let mut send = marks::none_to_send();
-    let mut receive = marks::none();
+    let mut send = [0; 128];
+    let mut receive = [0; 256];
     let sound = checking::sound(
         settings,
         flight,

@@ -1,7 +1,6 @@
 -- `flight_fits`: the records before index i are passed.
 use mathlib.Core.Path.{refl, sym, ap, ◌∙◌}
 use mathlib.Core.List.{List}
-use Prim.Native.Nat.{◌-◌}
 use native.Mathlib.Omega.{arith}
 use borrow.Author.Rules.{rules}
 use Rattle.timing.specs.declared.Record.{Record}

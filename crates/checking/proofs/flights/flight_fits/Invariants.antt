@@ -3,7 +3,7 @@ use mathlib.Core.Path.{◌≡◌}
 use Prim.Native.Nat.{◌-◌, ◌≤◌}
 use lib.ListN.{length, take, drop}
 use Rattle.record_words.specs.RecordWords.{records_in}
-use Rattle.checking.specs.Tests.{least_after_all, flight_fits}
+use Rattle.checking.specs.Tests.{least_after_all}
 use Rattle.checking.proofs.flights.flight_fits.Given as goal
 
 abbrev pub invariant-loop-i : goal.invariant-loop-i
