@@ -1,30 +1,21 @@
 // The tests that the writer and the reader share.
 ghost use Rattle.std.specs.Prelude.{◌≡◌, ◌*◌, ◌<◌, leb};
 ghost use Rattle.frames.specs.Lists.{add_up};
-ghost use Rattle.frames.specs.Outcomes.{settings_ok, lent_ok, lengths_ok};
+ghost use Rattle.frames.specs.Outcomes.{lent_ok, length_ok, lengths_ok};
 
-use crate::Frames;
 use protocol::Protocol;
-
-pub fn wide(x: u16) -> usize
-    ensures { result ≡ x }
-{
-    x as usize
-}
 
 // The lengths add up to no more than size.
 fn packed(size: usize, lengths: &[u16]) -> bool
     ensures { result ≡ leb (add_up lengths.now) size }
 {
     let mut left = size;
-    let mut i = 0;
-    while i < lengths.len() {
-        let n = wide(lengths[i]);
+    for n in lengths.iter() {
+        let n = usize::from(*n);
         if left < n {
             return false;
         }
         left -= n;
-        i += 1;
     }
     true
 }
@@ -41,31 +32,19 @@ pub fn lent_ok(
     requires { n * each < 1099511627776 }
     ensures { result ≡ lent_ok size lengths.now n each room slots }
 {
-    packed(size, lengths) & (n * each <= room) & (n <= slots)
+    packed(size, lengths) && n * each <= room && n <= slots
 }
 
-// 1 to 10 datagrams in a group, and a link's mtu.
-pub fn settings_ok(k: usize, mtu: usize) -> bool
-    ensures { result ≡ settings_ok k mtu }
+// A header's size to mtu.
+fn length_ok(mtu: usize, n: u16) -> bool
+    ensures { result ≡ length_ok mtu n }
 {
-    let least = Protocol::MTU_LEAST as usize;
-    let most = Protocol::MTU_MOST as usize;
-    (1 <= k) & (k <= Frames::DATA_MOST) & (least <= mtu) & (mtu <= most)
+    (Protocol::HEADER..=mtu).contains(&usize::from(n))
 }
 
 // Each length is 24 to mtu.
 pub fn lengths_ok(mtu: usize, lengths: &[u16]) -> bool
     ensures { result ≡ lengths_ok mtu lengths.now }
 {
-    let mut i = 0;
-    while i < lengths.len() {
-        let n = wide(lengths[i]);
-        let ok = (Protocol::HEADER <= n) & (n <= mtu);
-        if ok {
-            i += 1;
-        } else {
-            return false;
-        }
-    }
-    true
+    lengths.iter().all(|n| length_ok(mtu, *n))
 }
