@@ -1,12 +1,13 @@
 // The tests that the writer and the reader share.
-ghost use Rattle.std.specs.Prelude.{◌≡◌, ◌*◌, ◌<◌, leb};
+ghost use Rattle.std.specs.Prelude.{◌≡◌, ◌*◌, ◌≤◌, ◌<◌, leb, true, false, length, MatchResult};
 ghost use Rattle.frames.specs.Lists.{add_up};
 ghost use Rattle.frames.specs.Outcomes.{lent_ok, length_ok, lengths_ok};
 
+use crate::Refusal;
 use protocol::Protocol;
 
 // The lengths add up to no more than size.
-fn packed(size: usize, lengths: &[u16]) -> bool
+fn adds_up(size: usize, lengths: &[u16]) -> bool
     ensures { result ≡ leb (add_up lengths.now) size }
 {
     let mut left = size;
@@ -20,19 +21,35 @@ fn packed(size: usize, lengths: &[u16]) -> bool
     true
 }
 
-// Packed bytes are as many as their lengths say, and there is room for n parts of `each` bytes, and for n lengths.
-pub fn lent_ok(
-    size: usize,
-    lengths: &[u16],
-    n: usize,
-    each: usize,
-    room: usize,
-    slots: usize,
-) -> bool
-    requires { n * each < 1099511627776 }
-    ensures { result ≡ lent_ok size lengths.now n each room slots }
-{
-    packed(size, lengths) && n * each <= room && n <= slots
+// Parts, datagrams or frames, packed one behind the other, and the length of each.
+#[derive(Clone, Copy)]
+pub struct Packed<'a> {
+    pub bytes: &'a [u8],
+    pub lengths: &'a [u16],
+    pub ghost whole: { add_up lengths.now ≤ length bytes.now },
+}
+
+impl<'a> Packed<'a> {
+    // Packed bytes are as many as their lengths say, and there is room for n parts of `each` bytes, and for n lengths.
+    pub fn new(
+        bytes: &'a [u8],
+        lengths: &'a [u16],
+        n: usize,
+        each: usize,
+        room: usize,
+        slots: usize,
+    ) -> Result<Packed<'a>, Refusal>
+        requires { n * each < 1099511627776 }
+        ensures { MatchResult result
+            (λ p. (lent_ok (length bytes.now) lengths.now n each room slots ≡ true) × (p.bytes.now ≡ bytes.now) × (p.lengths.now ≡ lengths.now))
+            (λ r. (lent_ok (length bytes.now) lengths.now n each room slots ≡ false) × (r ≡ Refusal.ShortPart)) }
+    {
+        if adds_up(bytes.len(), lengths) && n * each <= room && n <= slots {
+            Ok(Packed { bytes, lengths })
+        } else {
+            Err(Refusal::ShortPart)
+        }
+    }
 }
 
 // A header's size to mtu.

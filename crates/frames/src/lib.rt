@@ -1,7 +1,7 @@
 // Groups of frames: k data frames, each a datagram behind a header of 8 bytes, and two parity frames.
 #![tactic(auto)]
 
-ghost use Rattle.std.specs.Prelude.{◌≡◌, ◌≤◌, true, false, MatchOption};
+ghost use Rattle.std.specs.Prelude.{◌≡◌, ◌≤◌, true, false, MatchResult};
 ghost use Rattle.frames.specs.Outcomes.{number_of, settings_ok};
 
 pub mod lent;
@@ -69,17 +69,17 @@ pub struct Shape {
 }
 
 impl Shape {
-    // 1 to 10 datagrams in a group, and a link's mtu; None for other settings.
-    pub fn new(k: u32, mtu: u32) -> Option<Shape>
-        ensures { MatchOption result (settings_ok k mtu ≡ false)
-            (λ s. (settings_ok k mtu ≡ true) × (s.k ≡ k) × (s.mtu ≡ mtu)) }
+    // 1 to 10 datagrams in a group, and a link's mtu; refuses other settings.
+    pub fn new(k: u32, mtu: u32) -> Result<Shape, Refusal>
+        ensures { MatchResult result (λ s. (settings_ok k mtu ≡ true) × (s.k ≡ k) × (s.mtu ≡ mtu))
+            (λ r. (settings_ok k mtu ≡ false) × (r ≡ Refusal.SettingOutOfRange)) }
     {
         let (k, mtu) = (k as usize, mtu as usize);
         let mtus = usize::from(Protocol::MTU_LEAST)..=usize::from(Protocol::MTU_MOST);
         if (1..=Frames::DATA_MOST).contains(&k) && mtus.contains(&mtu) {
-            Some(Shape { k, mtu })
+            Ok(Shape { k, mtu })
         } else {
-            None
+            Err(Refusal::SettingOutOfRange)
         }
     }
 }
