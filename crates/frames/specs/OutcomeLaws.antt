@@ -1,6 +1,6 @@
 -- Laws of outcomes.
 -- Assumes nothing.
-use Rattle.std.specs.Prelude.{◌≡◌, refl, Bool, true, false, cond, ◌&&◌, Ok, Err, List, [], ◌∷◌, ℕ, suc, ◌+◌, ◌*◌, ◌≤◌, ◌<◌, max, leb, length, get_or}
+use Rattle.std.specs.Prelude.{◌≡◌, refl, Bool, true, false, cond, ◌&&◌, Result, Ok, Err, List, [], ◌∷◌, ℕ, suc, ◌+◌, ◌*◌, ◌≤◌, ◌<◌, max, leb, length, get_or}
 use Rattle.std.proofs.Common.{sym, ap, ◌∙◌, suc-mul, arith, leb-true, le-leb, eq-eqb}
 use Rattle.std.proofs.lemmas.List.Edits.{sets}
 use Rattle.frames.specs.declared.Refusal.{Refusal}
@@ -23,6 +23,11 @@ refusing o r bytes lengths e = record {
   bytes = sym (ap (λ (p : Outcome). bytes_after p bytes) e);
   lengths = sym (ap (λ (p : Outcome). lengths_after p lengths) e);
 }
+
+-- the same, of a refusal handed on
+pub refusing_on : (o : Outcome) (r q : Refusal) (a : Result ℕ Refusal) (bytes lengths : List ℕ) → o ≡ refused r → q ≡ r → a ≡ Err q
+    → Gives o bytes lengths a bytes lengths
+refusing_on o r q a bytes lengths e f g = rw (g, f) (refusing o r bytes lengths e)
 
 -- what a call that writes leaves
 pub writing :

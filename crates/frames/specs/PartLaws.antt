@@ -90,6 +90,31 @@ get_d_largest [] p = omega arith
 get_d_largest (n ∷ ns) zero = omega arith
 get_d_largest (n ∷ ns) (suc p) = let h : get_or ns p 0 ≤ largest ns = get_d_largest ns p in omega arith
 
+-- part p lies at `from` and has n bytes
+pub record Lies (s ns : List ℕ) (p from n : ℕ) : Type 0 where
+  pub within : from + n ≤ length s
+  pub inside : from + n ≤ add_up ns
+  pub small : n ≤ largest ns
+  pub next : from + n ≡ add_up (take (p + 1) ns)
+  pub size : length (take (from + n - from) (drop from s)) ≡ n
+  pub part : take (from + n - from) (drop from s) ≡ get_or (parts s ns) p []
+
+pub lies : (s ns : List ℕ) (p from n : ℕ) → add_up ns ≤ length s → p < length ns → from ≡ add_up (take p ns) → n ≡ get_or ns p 0
+    → Lies s ns p from n
+lies s ns p from n h l ef en =
+    let a = add_up_next ns p l in
+    let b = add_up_le ns (p + 1) in
+    let w : from + n ≤ length s = omega (arith, a, b) in
+    let e : from + n - from ≡ n = omega arith in
+    record {
+      within = w;
+      inside = omega (arith, a, b);
+      small = omega (arith, get_d_largest ns p);
+      next = omega (arith, a);
+      size = rw e (length_part s from n w);
+      part = rw (e, ef, en) (sym (part_at s ns p l));
+    }
+
 pub size_le : (ds : List (List ℕ)) (p : ℕ) → length (get_or ds p []) ≤ largest (lengths_of ds)
 unfolding lengths_of largest
 size_le [] p = omega arith

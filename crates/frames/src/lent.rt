@@ -1,5 +1,6 @@
 // The tests that the writer and the reader share.
 ghost use Rattle.std.specs.Prelude.{◌≡◌, ◌*◌, ◌≤◌, ◌<◌, leb, true, false, length, MatchResult};
+ghost use Rattle.wire.specs.LittleEndian.{AllBytes};
 ghost use Rattle.frames.specs.Lists.{add_up};
 ghost use Rattle.frames.specs.Outcomes.{lent_ok, length_ok, lengths_ok};
 
@@ -27,6 +28,7 @@ pub struct Packed<'a> {
     pub bytes: &'a [u8],
     pub lengths: &'a [u16],
     pub ghost whole: { add_up lengths.now ≤ length bytes.now },
+    pub ghost small: { AllBytes bytes.now },
 }
 
 impl<'a> Packed<'a> {
