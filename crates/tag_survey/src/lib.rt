@@ -8,7 +8,7 @@ ghost use Rattle.tag_entry.specs.Entries.{is_free, is_named};
 ghost use Rattle.tag_survey.specs.Tables.{table_size, entries_in, is_fresh, place_of};
 ghost use Rattle.tag_survey.specs.Surveys.{Met, surveyed};
 
-use tag_entry::{ENTRY, Entry, fingerprint, is_entry, is_named, name_of};
+use tag_entry::{Entry, fingerprint, is_entry, is_named, name_of};
 use tag_message::TagRefusal;
 
 // How many entries a table has, and its bytes.
