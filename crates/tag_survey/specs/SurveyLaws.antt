@@ -1,6 +1,6 @@
 -- Laws of `Surveys`: the fingerprints met, and the steps of the pass.
 -- Assumes nothing.
-use Rattle.std.specs.Prelude.{◌≡◌, refl, Bool, true, false, cond, not, ◌&&◌, List, [], ◌∷◌, ◌++◌, ℕ, Some, None, Ok, Err, ◌+◌, ◌≤◌, ◌<◌, eqb, leb, length, take, drop, get_or, position, All}
+use Rattle.std.specs.Prelude.{◌≡◌, refl, Bool, true, false, cond, not, ◌&&◌, List, [], ◌∷◌, ◌++◌, ℕ, Option, Some, None, IfSome, Result, Ok, Err, IsErrAnd, ◌+◌, ◌≤◌, ◌<◌, eqb, leb, length, take, drop, get_or, position, All}
 use Rattle.std.proofs.Common.{sym, ap, ◌∙◌, arith, add-one, drop_of_length-le, take-suc, take_all, length-drop, length-take, drop-cons}
 use Rattle.std.specs.List.{list_all, list_any}
 use Rattle.std.specs.Option.{ok_or}
@@ -9,8 +9,11 @@ use Rattle.std.proofs.lemmas.Bool.{and_parts}
 use Rattle.std.proofs.lemmas.List.Elements.{All-get_or, All-weaker}
 use Rattle.std.proofs.lemmas.List.Sums.{AllPass-from_list_all}
 use Rattle.std.proofs.lemmas.List.Folds.{list_all_more, list_all_at, list_any_none}
+use Rattle.std.proofs.lemmas.Result.{err_from_is_err_and}
+use Rattle.std.proofs.lemmas.List.Quantifiers.{position-Some}
 use Rattle.std.proofs.lemmas.Slice.Eq.{bytes_eq-Decides}
 use borrow.Author.Tests.{eq-eqb, ne_eqb, eqb-true, leb-true}
+use Rattle.tag_message.specs.declared.TagRefusal.{TagRefusal}
 use Rattle.tag_message.specs.declared.TagRefusal.TheVariants.{OtherSize, NotATable}
 use Rattle.tag_entry.specs.Entries.{name_length, name_of, value_length, is_zero, is_free, is_used, is_entry, is_named}
 use Rattle.tag_entry.specs.Fingerprints.{fingerprint}
@@ -144,6 +147,39 @@ module _ (name t : List ℕ) where
           record { size = eqb-true (length t) 6272 p; table = q; named = ap (λ (x : Seen). x.named) s; free = ap (λ (x : Seen). x.free) s }
       go true p false q r = cc
       go false p b q r = cc
+
+pub no_table : (name t : List ℕ) {r : TagRefusal} → length t ≡ 6272 → surveyed name t ≡ Err r
+    → (is_table (entries_in t) ≡ false) × (NotATable ≡ r)
+unfolding surveyed survey_of
+no_table name t {r} h e = go (is_table (entries_in t)) refl (rw (eq-eqb (length t) 6272 h) at e)
+  where
+    there : Seen
+    there = record { named = place_of name (entries_in t); free = position is_free (entries_in t) }
+
+    go : (b : Bool) → is_table (entries_in t) ≡ b → ok_or (cond b (Some there) None) NotATable ≡ Err r → (b ≡ false) × (NotATable ≡ r)
+    go true q f = cc
+    go false q f = (refl, cc)
+
+-- what a `?` passes on
+pub raised : {T : Type 0} (r : Result T TagRefusal) (e : TagRefusal) → IsErrAnd r (λ x. x ≡ e) → r ≡ Err e
+raised r e h = let p = err_from_is_err_and r h in p.1 ∙ ap Err p.2
+
+-- ---- places
+
+module _ (t : List ℕ) where
+  pub position_below : (p : List ℕ → Bool) (at : ℕ) → position p (entries_in t) ≡ Some at → at < 64
+  position_below p at e = omega (arith, (position-Some p (entries_in t) at [] e).0, length_entries t)
+
+pub place_of_below : (name t : List ℕ) (at : ℕ) → place_of name (entries_in t) ≡ Some at → at < 64
+unfolding place_of
+place_of_below name t at e = position_below t (is_named name) at e
+
+pub named_below : {name t : List ℕ} {seen : Seen} → Sees name t seen → IfSome seen.named (λ k. k < 64)
+named_below {name} {t} {seen} s = go seen.named s.named
+  where
+    go : (o : Option ℕ) → o ≡ place_of name (entries_in t) → IfSome o (λ k. k < 64)
+    go None e = tt
+    go (Some i) e = place_of_below name t i (sym e)
 
 -- a value is short in an entry that is in its rules
 pub entry_value : (e : List ℕ) → length e ≡ 98 → is_entry e ≡ true → value_length e ≤ 64

@@ -1,29 +1,23 @@
 -- Laws of `Changes`: the answers in turn, and what a store leaves.
 -- Assumes nothing.
-use Rattle.std.specs.Prelude.{◌≡◌, refl, Bool, true, false, cond, List, [], ℕ, Option, Some, None, is_some, Result, Ok, Err, IsErrAnd, ◌+◌, ◌-◌, ◌*◌, ◌<◌, eqb, length, take, drop, position}
+use Rattle.std.specs.Prelude.{◌≡◌, refl, Bool, true, false, cond, List, [], ℕ, Option, Some, None, is_some, Ok, Err, ◌+◌, ◌-◌, ◌*◌, ◌<◌, eqb, length, take, drop, position}
 use Rattle.std.proofs.Common.{sym, ap, subst, ◌∙◌, arith}
 use Rattle.std.specs.Option.{ok_or, option_or}
-use Rattle.std.proofs.lemmas.Result.{err_from_is_err_and}
 use borrow.Author.Tests.{eq-eqb}
 use Rattle.std.proofs.lemmas.List.Edits.{sets}
-use Rattle.std.proofs.lemmas.List.Quantifiers.{position-Some}
 use Rattle.std.proofs.Math.Seq.{length-sets}
 use Rattle.tag_message.specs.Tags.{is_name, is_tag}
 use Rattle.tag_message.specs.Messages.{name_length, value_length, name_in, value_in, is_message}
 use Rattle.tag_message.specs.MessageLaws.{Read, passed, read_tag}
 use Rattle.tag_message.specs.declared.TagRefusal.{TagRefusal}
 use Rattle.tag_message.specs.declared.TagRefusal.TheVariants.{OtherSize, NotATag, Full, NotATable}
-use Rattle.tag_entry.specs.Entries.{is_free, is_named}
+use Rattle.tag_entry.specs.Entries.{is_free}
 use Rattle.tag_survey.specs.Tables.{entries_in, is_table, place_of, place_for}
-use Rattle.tag_survey.specs.TableLaws.{length_entries, set_entry}
+use Rattle.tag_survey.specs.TableLaws.{set_entry}
 use Rattle.tag_survey.specs.Surveys.{survey_of, surveyed}
-use Rattle.tag_survey.specs.SurveyLaws.{Sees}
+use Rattle.tag_survey.specs.SurveyLaws.{Sees, position_below, place_of_below}
 use Rattle.tag_survey.specs.declared.Seen.{Seen}
 use Rattle.tag_table.specs.Changes.{Answer, answer_to, Leaves, Changes, replaced, with_tag, SetsTag, TakesTag}
-
--- what a `?` passes on
-pub raised : {T : Type 0} (r : Result T TagRefusal) (e : TagRefusal) → IsErrAnd r (λ x. x ≡ e) → r ≡ Err e
-raised r e h = let p = err_from_is_err_and r h in p.1 ∙ ap Err p.2
 
 -- ---- places
 
@@ -32,20 +26,13 @@ chosen None none at e = cc
 chosen (Some i) none at e = cc
 
 module _ (name t : List ℕ) where
-  position_below : (p : List ℕ → Bool) (at : ℕ) → position p (entries_in t) ≡ Some at → at < 64
-  position_below p at e = omega (arith, (position-Some p (entries_in t) at [] e).0, length_entries t)
-
-  pub place_of_below : (at : ℕ) → place_of name (entries_in t) ≡ Some at → at < 64
-  unfolding place_of
-  place_of_below at e = position_below (is_named name) at e
-
   pub place_for_below : (at : ℕ) → place_for name (entries_in t) ≡ Some at → at < 64
   unfolding place_for
   place_for_below at e = go (place_of name (entries_in t)) refl e
     where
       go : (o : Option ℕ) → place_of name (entries_in t) ≡ o → option_or o (position is_free (entries_in t)) ≡ Some at → at < 64
-      go (Some i) q h = place_of_below at (q ∙ h)
-      go None q h = position_below is_free at h
+      go (Some i) q h = place_of_below name t at (q ∙ h)
+      go None q h = position_below t is_free at h
 
   -- a place of the table
   pub record Placed (place : Option ℕ) (at : ℕ) : Type 0 where
@@ -58,7 +45,7 @@ module _ (name t : List ℕ) where
       → Placed (place_of name (entries_in t)) at
   named_at s none at e =
       let is : place_of name (entries_in t) ≡ Some at = sym s.named ∙ chosen _ none at e in
-      record { is = is; below = place_of_below at is; size = s.size }
+      record { is = is; below = place_of_below name t at is; size = s.size }
 
   -- where a tag goes
   pub place_for_lem : {seen : Seen} → Sees name t seen → option_or seen.named seen.free ≡ place_for name (entries_in t)

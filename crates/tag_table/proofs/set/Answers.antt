@@ -4,14 +4,14 @@ use Rattle.std.specs.Option.{ok_or}
 use Rattle.tag_message.specs.MessageLaws.{tag_lengths}
 use Rattle.tag_message.specs.declared.TagRefusal.TheVariants.{Full}
 use Rattle.tag_entry.specs.EntryLaws.{length_entry}
-use Rattle.tag_survey.specs.SurveyLaws.{sees}
+use Rattle.tag_survey.specs.SurveyLaws.{raised, sees}
 use Rattle.tag_table.specs.Changes.{with_tag}
 use Rattle.tag_table.specs.ChangeLaws as change
 use Rattle.tag_table.proofs.set.Goals as goal
 
 pub returns-in_err-seen : goal.returns-in_err-seen
 returns-in_err-seen c =
-    rw (change.raised _ _ c.from_residual.ensures.1) (change.refused c.args.name.now _ _ _ _ (sym c.survey.ensures ∙ c.in_err-seen.was))
+    rw (raised _ _ c.from_residual.ensures.1) (change.refused c.args.name.now _ _ _ _ (sym c.survey.ensures ∙ c.in_err-seen.was))
 
 pub returns-then-not-is_tag : goal.returns-then-not-is_tag
 returns-then-not-is_tag c =
@@ -20,7 +20,7 @@ returns-then-not-is_tag c =
 pub returns-in_err-at : goal.returns-in_err-at
 returns-in_err-at c =
     let s = sees _ _ _ (sym c.survey.ensures ∙ c.in_ok-seen.was) in
-    rw (change.raised _ _ c.from_residual-in_err-at.ensures.1)
+    rw (raised _ _ c.from_residual-in_err-at.ensures.1)
     (change.refuses_place c.args.name.now _ _ _ _ s (sym c.is_tag.ensures ∙ c.if-not-is_tag.false)
     (ap (λ o. ok_or o Full) (sym (c.place.ensures ∙ change.place_for_lem _ _ s)) ∙ sym c.ok_or.ensures.value ∙ c.in_err-at.was))
 
