@@ -17,7 +17,7 @@ use Rattle.tag_survey.specs.TableLaws.{set_entry}
 use Rattle.tag_survey.specs.Surveys.{survey_of, surveyed}
 use Rattle.tag_survey.specs.SurveyLaws.{Sees, position_below, place_of_below}
 use Rattle.tag_survey.specs.declared.Seen.{Seen}
-use Rattle.tag_table.specs.Changes.{Answer, answer_to, Leaves, Changes, replaced, with_tag, SetsTag, TakesTag}
+use Rattle.tag_table.specs.Changes.{Changed, answer_to, Leaves, Changes, replaced, with_tag, SetsTag, TakesTag}
 
 -- ---- places
 
@@ -83,7 +83,7 @@ module _ (name t : List ℕ) (formed : Bool) (place : Option ℕ) (none : TagRef
     unfolding answer_to
     refuses_place {r = r} f p = record { answered = rw (eq-eqb (length t) 6272 s.size, s.table, f) (go place p); leaves = refl }
       where
-        done : Answer
+        done : Changed
         done = Ok tt
 
         go : (o : Option ℕ) → ok_or o none ≡ Err r → Err r ≡ cond (is_some o) done (Err none)
@@ -101,7 +101,7 @@ module _ (name t : List ℕ) (formed : Bool) (place : Option ℕ) (none : TagRef
 -- ---- take
 
 -- where nothing is of the form, nothing is done
-never_done : (t : List ℕ) (place : Option ℕ) (none : TagRefusal) (es fs : List (List ℕ)) (a : Answer) (after : List ℕ)
+never_done : (t : List ℕ) (place : Option ℕ) (none : TagRefusal) (es fs : List (List ℕ)) (a : Changed) (after : List ℕ)
     → a ≡ answer_to t false place none → Leaves es a t after → Leaves fs a t after
 unfolding answer_to
 never_done t place none es fs (Ok u) after e l = absurd (go (eqb (length t) 6272) (is_table (entries_in t)) e)
@@ -112,7 +112,7 @@ never_done t place none es fs (Ok u) after e l = absurd (go (eqb (length t) 6272
     go false y h = cc
 never_done t place none es fs (Err r) after e l = l
 
-pub not_taken : (m t : List ℕ) (a : Answer) (after : List ℕ) → is_message m ≡ false → SetsTag [] [] t a after → TakesTag m t a after
+pub not_taken : (m t : List ℕ) (a : Changed) (after : List ℕ) → is_message m ≡ false → SetsTag [] [] t a after → TakesTag m t a after
 unfolding answer_to is_tag is_name
 not_taken m t a after e p =
     record {
@@ -122,7 +122,7 @@ not_taken m t a after e p =
     }
 
 pub taken :
-    (m t : List ℕ) (n v : ℕ) (a : Answer) (after : List ℕ) → Read m n v →
+    (m t : List ℕ) (n v : ℕ) (a : Changed) (after : List ℕ) → Read m n v →
     SetsTag (take (1 + n - 1) (drop 1 m)) (take (1 + n + 1 + v - (1 + n + 1)) (drop (1 + n + 1) m)) t a after → TakesTag m t a after
 unfolding name_in value_in
 taken m t n v a after r p =

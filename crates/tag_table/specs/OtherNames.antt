@@ -9,7 +9,7 @@ use Rattle.tag_message.specs.Messages.{name_in, value_in}
 use Rattle.tag_message.specs.declared.TagRefusal.{TagRefusal}
 use Rattle.tag_entry.specs.Entries.{name_of, is_free, is_named, entry_of, free_entry}
 use Rattle.tag_survey.specs.Tables.{entries_in, entry_at, place_of, place_for}
-use Rattle.tag_table.specs.Changes.{Answer, answer_to, Changes, replaced, with_tag, without_tag, SetsTag, TakesTag, RemovesTag}
+use Rattle.tag_table.specs.Changes.{Changed, answer_to, Changes, replaced, with_tag, without_tag, SetsTag, TakesTag, RemovesTag}
 
 -- a used entry with another name
 pub record Other (name e : List ℕ) : Type 0 where
@@ -41,7 +41,7 @@ module _ (name t : List ℕ) where
 
 -- a change at one place, which no other name has
 changed_preserves :
-    (name before : List ℕ) (formed : Bool) (place : Option ℕ) (none : TagRefusal) (e : List ℕ) (a : Answer) (after : List ℕ) →
+    (name before : List ℕ) (formed : Bool) (place : Option ℕ) (none : TagRefusal) (e : List ℕ) (a : Changed) (after : List ℕ) →
     ((i : ℕ) → Some i ≡ place → Other name (entry_at (entries_in before) i) → ⊥) →
     Changes (answer_to before formed place none) (replaced (entries_in before) place e) before a after → PreservesOthers name before after
 changed_preserves name before formed place none e (Err r) after n p i o = ap (λ (l : List ℕ). entry_at (entries_in l) i) p.leaves
@@ -51,20 +51,20 @@ changed_preserves name before formed (Some j) none e (Ok u) after n p i o =
     ∙ get_or-set_other (entries_in before) j i e [] (λ q. n i (ap Some q) o)
 
 -- no tag that is set alters an entry with another name
-pub set_preserves : (name value before : List ℕ) (a : Answer) (after : List ℕ) → SetsTag name value before a after
+pub set_preserves : (name value before : List ℕ) (a : Changed) (after : List ℕ) → SetsTag name value before a after
     → PreservesOthers name before after
 unfolding with_tag
 set_preserves name value before a after p = changed_preserves name before _ _ _ (entry_of name value) a after (other_place name before) p
 
 -- no tag message that is read and set does
-pub take_preserves : (m before : List ℕ) (a : Answer) (after : List ℕ) → TakesTag m before a after
+pub take_preserves : (m before : List ℕ) (a : Changed) (after : List ℕ) → TakesTag m before a after
     → PreservesOthers (name_in m) before after
 unfolding with_tag
 take_preserves m before a after p =
     changed_preserves (name_in m) before _ _ _ (entry_of (name_in m) (value_in m)) a after (other_place (name_in m) before) p
 
 -- nor does a name that is removed
-pub remove_preserves : (name before : List ℕ) (a : Answer) (after : List ℕ) → RemovesTag name before a after
+pub remove_preserves : (name before : List ℕ) (a : Changed) (after : List ℕ) → RemovesTag name before a after
     → PreservesOthers name before after
 unfolding without_tag
 remove_preserves name before a after p = changed_preserves name before _ _ _ free_entry a after (other_named name before) p
