@@ -2,40 +2,36 @@
 ghost use Rattle.std.specs.Prelude.{◌≡◌};
 ghost use Rattle.protocol.specs.Serial.{plus, minus, signed, is_before, is_after, is_due};
 
-// Half of the 32-bit numbers: a difference of this or more is negative.
-const HALF: u32 = 2147483648;
-
 // a + b, modulo 2^32.
 pub fn sum(a: u32, b: u32) -> u32
     ensures { result ≡ plus a b }
 {
-    std::num::wrapping_add_u32(a, b)
+    a.wrapping_add(b)
 }
 
 // a - b, modulo 2^32.
 pub fn difference(a: u32, b: u32) -> u32
     ensures { result ≡ minus a b }
 {
-    std::num::wrapping_sub_u32(a, b)
+    a.wrapping_sub(b)
 }
 
 // A number read as signed.
+#[tactic(auto, unfolding(crate::specs::Serial::signed))]
 pub fn read_signed(x: u32) -> i64
     ensures { result ≡ signed x }
 {
-    if x < HALF {
-        x as i64
-    } else {
-        (x as i64) - 4294967296
-    }
+    i64::from(x.cast_signed())
 }
 
+#[tactic(auto, unfolding(crate::specs::Serial::is_before))]
 pub fn before(a: u32, b: u32) -> bool
     ensures { result ≡ is_before a b }
 {
     read_signed(difference(a, b)) < 0
 }
 
+#[tactic(auto, unfolding(crate::specs::Serial::is_after))]
 pub fn after(a: u32, b: u32) -> bool
     ensures { result ≡ is_after a b }
 {
@@ -43,6 +39,7 @@ pub fn after(a: u32, b: u32) -> bool
 }
 
 // Whether the time d is due at t.
+#[tactic(auto, unfolding(crate::specs::Serial::is_due))]
 pub fn due(t: u32, d: u32) -> bool
     ensures { result ≡ is_due t d }
 {
