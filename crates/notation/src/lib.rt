@@ -4,17 +4,3 @@
 
 pub mod put;
 pub mod read;
-
-// A number read from a word.
-#[derive(Clone, Copy)]
-pub enum Number {
-    Of(u32),
-    Malformed,
-}
-
-// How many bytes were read from a word.
-#[derive(Clone, Copy)]
-pub enum Bytes {
-    Count(usize),
-    Malformed,
-}
