@@ -8,7 +8,8 @@ pub loop-i-preserved : goal.loop-i-preserved
 loop-i-preserved c =
     let l = c.loop-i in
     let s = c.args.s.now in
-    let stored : 16 * c.hex_value.result + c.hex_value-in-loop-i.result ≡ 16 * hex_value (get_or s (2 * l.i) 0) + hex_value (get_or s (2 * l.i + 1) 0) =
+    let stored : 16 * c.hex_value.result + c.hex_value-in-loop-i.result
+    ≡ 16 * hex_value (get_or s (2 * l.i) 0) + hex_value (get_or s (2 * l.i + 1) 0) =
     omega (arith, c.hex_value.ensures.0, c.hex_value-in-loop-i.ensures.0) in
     decode_step s _ _ l.i _ (omega arith) stored l.invariant
 

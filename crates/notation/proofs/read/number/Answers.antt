@@ -16,7 +16,8 @@ returns-then-is_empty c =
 pub returns-in_err-digit : goal.returns-in_err-digit
 returns-in_err-digit c =
     let l = c.loop-c in
-    c.from_residual.ensures ∙ sym (no_digits _ (l.invariant.digits ∙ every_stop is_digit _ l.c-index (search rules) (c.in_err-digit.ensures)))
+    c.from_residual.ensures
+    ∙ sym (no_digits _ (l.invariant.digits ∙ every_stop is_digit _ l.c-index (search rules) (c.in_err-digit.ensures)))
 
 pub returns-in_err-checked_mul : goal.returns-in_err-checked_mul
 returns-in_err-checked_mul c =
