@@ -1,5 +1,6 @@
 -- The loop over a datagram's segments: what has been heard, and what remains, together are the whole.
 -- Assumes nothing.
+use Rattle.std.specs.Prelude.{Some, None}
 use mathlib.Core.Path.{◌≡◌, refl, sym, ◌∙◌}
 use mathlib.Core.List.{List, []}
 use Prim.Native.Nat.{ℕ, ◌-◌, ◌<◌}
@@ -7,11 +8,10 @@ use native.Mathlib.Omega.{arith}
 use lib.ListN.{length}
 use Rattle.protocol.specs.Ranges.{mss}
 use Rattle.protocol.specs.declared.Settings.{Settings}
-use Rattle.wire.specs.declared.Header.{Header}
 use Rattle.datagram.specs.Datagrams.{Segment, parse, segments, step_at}
 use Rattle.datagram.specs.StepLaws.{Begun, Remaining, Took}
 use Rattle.datagram.proofs.StepLaws.{took, ended}
-use Rattle.datagram.specs.declared.Step.TheVariants as step
+use Rattle.datagram.specs.declared.Segment.{Segment as Place}
 use Rattle.session.specs.Input.{heard_by_sending, all_by_sending, ack_numbers, skipped_by_all}
 use Rattle.acknowledge.specs.Flights.{View, half_with, FlightIs, HearsAll}
 use Rattle.acknowledge.specs.Furthest.{none_yet, further_by, further_by_all, skipped_by}
@@ -45,29 +45,29 @@ module _ (c : Settings) (current : ℕ) (s : List ℕ) (v₀ : View) where
 
   module _ (v : View) (furthest : Furthest) (at : ℕ) (w : Walking v furthest at) where
     -- the next segment
-    module _ (header : Header) (start next : ℕ) (e : step_at s at ≡ step.Segment header start next) where
-      first : Took c.conv (mss c) s at w.rest header start next
-      first = took c.conv (mss c) s at w.rest w.remaining header start next e
+    module _ (p : Place) (e : step_at s at ≡ Some p) where
+      first : Took c.conv (mss c) s at w.rest p.header p.start p.next
+      first = took c.conv (mss c) s at w.rest w.remaining p e
 
-      pub walking_less : length s - next < length s - at
+      pub walking_less : length s - p.next < length s - at
       walking_less = omega (arith, first.follows, first.inside)
 
-      pub walking_more : (v' : View) (furthest' : Furthest) → furthest' ≡ further_by furthest header
-          → FlightIs v' v (λ x. heard_by_sending c current x header) → Walking v' furthest' next
+      pub walking_more : (v' : View) (furthest' : Furthest) → furthest' ≡ further_by furthest p.header
+          → FlightIs v' v (λ x. heard_by_sending c current x p.header) → Walking v' furthest' p.next
       unfolding all_by_sending further_by_all
       walking_more v' furthest' b a = record {
         all = w.all;
         rest = first.others;
         parsed = w.parsed;
         remaining = first.remaining;
-        ordered = heard_order c current v' v header a w.ordered;
+        ordered = heard_order c current v' v p.header a w.ordered;
         queue = a.queue ∙ w.queue;
         sending = λ q. rw (a.half q) (rw first.whole at (w.sending q));
         acked = rw b (rw first.whole at w.acked);
       }
 
     -- none is left
-    module _ (e : step_at s at ≡ step.End) where
+    module _ (e : step_at s at ≡ None) where
       none : w.rest ≡ []
       none = ended c.conv (mss c) s at w.rest w.remaining e
 

@@ -15,7 +15,6 @@ ghost use Rattle.acknowledge.specs.Furthest.{none_yet, further_by};
 ghost use Rattle.acknowledge.specs.Hearing.{stays_by, Concerns, timed_by, skip_record};
 
 use control::Flight;
-use datagram::Step;
 use protocol::{Protocol, Settings, serial};
 use retransmission::outstanding;
 use timing::{Record, RoundTrip};
@@ -203,20 +202,9 @@ pub fn hear(
     let mut f = flight;
     let mut furthest = Furthest::new();
     let mut at: usize = 0;
-    loop {
-        let step = datagram::segment_at(s, at);
-        let Step::Segment {
-            header,
-            start: _,
-            next,
-        } = step
-        else {
-            if furthest.any & counts(f.una, f.next, furthest.number) {
-                skip_before(records, f.outstanding, furthest.number);
-            }
-            return f;
-        };
-        at = next;
+    while let Some(segment) = datagram::segment_at(s, at) {
+        let header = segment.header;
+        at = segment.next;
         furthest = furthest.after(header);
         f.window = header.wnd;
         let before = f.rtt;
@@ -234,4 +222,8 @@ pub fn hear(
             f.una = left.first;
         }
     }
+    if furthest.any & counts(f.una, f.next, furthest.number) {
+        skip_before(records, f.outstanding, furthest.number);
+    }
+    f
 }

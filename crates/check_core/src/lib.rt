@@ -9,8 +9,8 @@ ghost use Rattle.promises.specs.Parts.{lent_lengths};
 ghost use Rattle.promises.specs.Outcomes.{checks_with};
 ghost use Rattle.promises.specs.Answers.{time_outcome};
 
-use answers::Time;
-use checking::{Verdict, flights};
+use answers::Answer;
+use checking::flights;
 use control::{Arrival, Clock, Flight};
 use flush_core::parts;
 use protocol::Settings;
@@ -35,7 +35,7 @@ pub fn check(
     receive_pool: &[u8],
     acks: &[u32],
     t: u32,
-) -> Time
+) -> Answer<u32>
     requires { Whole (arrays queued.now outstanding.now transmissions.now ready.now waiting.now waiting_numbers.now)
         × (length records.now ≡ 128)
         × Sounds (link_of settings flight arrival clock (arrays queued.now outstanding.now
@@ -56,10 +56,10 @@ pub fn check(
     let flown = flights::flight_fits(records, settings, flight);
     let verdict = checking::judged(long, sound & flown);
     match verdict {
-        Verdict::Passed => {
+        Ok(()) => {
             let schedule = parts::schedule_of(clock);
-            Time::At(schedule.check(t, settings.interval, records, flight.outstanding))
+            Ok(schedule.check(t, settings.interval, records, flight.outstanding))
         }
-        Verdict::Refused(refusal) => Time::Refused(refusal),
+        Err(refusal) => Err(refusal),
     }
 }

@@ -14,28 +14,21 @@ ghost use Rattle.control.specs.Views.{arrays, link_of, Whole};
 ghost use Rattle.checking.specs.Tests.{SendingFits, ReceivingFits};
 ghost use Rattle.checking.specs.Verdicts.{Sound, verdict_of};
 
+use answers::Answer;
 use control::{Arrival, Clock, Flight};
 use protocol::{Refusal, Settings};
 
-// What the checks of 7 and 13 say.
-#[derive(Clone, Copy)]
-pub enum Verdict {
-    Passed,
-    Refused(Refusal),
-}
-
 // 7, then 13.
-pub fn judged(long: bool, made: bool) -> Verdict
+pub fn judged(long: bool, made: bool) -> Answer<()>
     ensures { result ≡ verdict_of long made }
 {
     if !long {
-        return Verdict::Refused(Refusal::ShortPart);
+        return Err(Refusal::ShortPart);
     }
-    if made {
-        Verdict::Passed
-    } else {
-        Verdict::Refused(Refusal::InvalidBlock)
+    if !made {
+        return Err(Refusal::InvalidBlock);
     }
+    Ok(())
 }
 
 // The segments of the sending half; their slots are marked.

@@ -1,6 +1,6 @@
 -- Valid segments that are joined are found again.
 -- Assumes nothing.
-use Rattle.std.specs.Prelude.{◌≡◌, refl, ℕ, ◌+◌, ◌-◌, ◌≤◌, ◌<◌, length, drop}
+use Rattle.std.specs.Prelude.{◌≡◌, Ok, refl, ℕ, ◌+◌, ◌-◌, ◌≤◌, ◌<◌, length, drop}
 use Rattle.std.proofs.Common.{sym, ◌∙◌, arith, le-leb, length-append, drop-drop, drop_at}
 use mathlib.Core.List.{List, [], ◌∷◌, ◌++◌, append_assoc, append-nil}
 use Rattle.std.proofs.Math.Seq.{take_at}
@@ -9,7 +9,6 @@ use Rattle.wire.specs.HeaderLaws.{decode_encode, length_encode}
 use Rattle.wire.specs.declared.Header.{Header}
 use Rattle.protocol.specs.declared.Refusal.{Refusal}
 use Rattle.protocol.specs.declared.Refusal.TheVariants.{TrailingBytes}
-use Rattle.datagram.specs.declared.Verdict.TheVariants.{Passes}
 use Rattle.datagram.specs.Datagrams.{Segment, verdict, segment_of, in_front, tail, walk, parse, segments, refused}
 use Rattle.datagram.specs.WalkLaws.{passed, tail_empty, tail_junk, walk_short, walk_step, parse_long}
 use Rattle.datagram.specs.Joined.{bytes, joined, Valid, AllValid, all_in_front}
@@ -24,7 +23,7 @@ unfolding bytes
 length_bytes g = rw (length-append, length_encode)
 
 -- more room fails no test
-verdict_more : (conv mss room more : ℕ) (h : Header) → room ≤ more → verdict conv mss room h ≡ Passes → verdict conv mss more h ≡ Passes
+verdict_more : (conv mss room more : ℕ) (h : Header) → room ≤ more → verdict conv mss room h ≡ Ok tt → verdict conv mss more h ≡ Ok tt
 unfolding verdict
 verdict_more conv mss room more h le e =
     let fits : h.len ≤ room = (passed conv mss room h e).inside in
@@ -49,9 +48,9 @@ module _ (conv mss : ℕ) (g : Segment) (v : Valid conv mss g) (t : List ℕ) wh
   unfolding segment_of
   found = rw (head, behind, take_at g.payload t g.header.len (sym v.len))
 
-  walk_front : walk conv mss 0 (bytes g ++ t) ≡ in_front Passes g (walk conv mss 0 t)
+  walk_front : walk conv mss 0 (bytes g ++ t) ≡ in_front (Ok tt) g (walk conv mss 0 t)
   walk_front =
-      let passes : verdict conv mss (length (bytes g ++ t) - 24) g.header ≡ Passes =
+      let passes : verdict conv mss (length (bytes g ++ t) - 24) g.header ≡ Ok tt =
       verdict_more conv mss _ _ _ (omega (arith, length_front)) v.passes in
       rw (walk_step conv mss (bytes g ++ t) (omega (arith, length_front)), head, found, next, passes)
 

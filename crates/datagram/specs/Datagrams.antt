@@ -1,6 +1,6 @@
 -- What a datagram is: why it is refused, or its segments. Definitions.
 -- Assumes nothing.
-use Rattle.std.specs.Prelude.{Bool, true, cond, ◌&&◌, List, [], ◌∷◌, ℕ, zero, suc, ◌+◌, ◌-◌, leb, eqb, length, take, drop}
+use Rattle.std.specs.Prelude.{Bool, true, Option, None, Some, Result, Ok, Err, cond, ◌&&◌, List, [], ◌∷◌, ℕ, zero, suc, ◌+◌, ◌-◌, leb, eqb, length, take, drop}
 use Rattle.wire.specs.Headers.{decode}
 use Rattle.protocol.specs.Protocol.{push, window_tell, header_size, fragment_most}
 use Rattle.wire.specs.declared.Header.{Header}
@@ -14,12 +14,7 @@ use Rattle.protocol.specs.declared.Refusal.TheVariants.{
   HighFragment,
   TrailingBytes,
 }
-use Rattle.datagram.specs.declared.Verdict.{Verdict}
-use Rattle.datagram.specs.declared.Verdict.TheVariants.{Passes, Fails}
-use Rattle.datagram.specs.declared.Checked.{Checked}
-use Rattle.datagram.specs.declared.Checked.TheVariants.{Accepted, Refused}
-use Rattle.datagram.specs.declared.Step.{Step}
-use Rattle.datagram.specs.declared.Step.TheVariants as step
+use Rattle.datagram.specs.declared.Segment.{Segment as Place}
 
 -- ---- one segment
 
@@ -33,10 +28,14 @@ pub record Test : Type 0 where
   pub holds : Bool
   pub otherwise : Refusal
 
+-- whether a segment passes the tests, or the refusal of the first that fails
+abbrev pub Verdict : Type 0
+Verdict = Result (Unit {0}) Refusal
+
 -- the tests in turn: the first that fails decides
 abbrev pub first_failed : List Test → Verdict
-first_failed [] = Passes
-first_failed (t ∷ ts) = cond t.holds (first_failed ts) (Fails t.otherwise)
+first_failed [] = Ok tt
+first_failed (t ∷ ts) = cond t.holds (first_failed ts) (Err t.otherwise)
 
 -- what is asked of a push alone
 abbrev pub of_push : Header → Bool → Bool
@@ -70,9 +69,9 @@ pub data Parsed : Type 0 where
 
 -- a segment with its verdict, in front of what the rest is: the first bad segment decides
 abbrev pub in_front : Verdict → Segment → Parsed → Parsed
-in_front Passes g (refused r) = refused r
-in_front Passes g (segments gs) = segments (g ∷ gs)
-in_front (Fails r) g p = refused r
+in_front (Ok _) g (refused r) = refused r
+in_front (Ok _) g (segments gs) = segments (g ∷ gs)
+in_front (Err r) g p = refused r
 
 -- what is left behind the last whole segment, fewer than 24 bytes. 14: there is such a tail. It comes last: a bad segment before it
 -- decides (`in_front`)
@@ -97,17 +96,21 @@ module _ (conv mss : ℕ) where
   unfoldable pub parse : List ℕ → Parsed
   parse s = cond (leb header_size (length s)) (walk 0 s) (refused ShortDatagram)
 
+-- whether a datagram is accepted, with the count of its segments, or why it is refused
+abbrev pub Checked : Type 0
+Checked = Result ℕ Refusal
+
 -- the answer for what a datagram is, with n segments counted before it
 abbrev pub counted : ℕ → Parsed → Checked
-counted n (refused r) = Refused r
-counted n (segments gs) = Accepted (n + length gs)
+counted n (refused r) = Err r
+counted n (segments gs) = Ok (n + length gs)
 
 -- ---- a position
 
 -- the segment at index i of s, where all of it stands in s
-unfoldable pub step_at : List ℕ → ℕ → Step
+unfoldable pub step_at : List ℕ → ℕ → Option Place
 step_at s i =
     let h = decode s i in
     let start = i + header_size in
     let next = start + h.len in
-    cond (leb start (length s) && leb next (length s)) (step.Segment h start next) step.End
+    cond (leb start (length s) && leb next (length s)) (Some (record { header = h; start = start; next = next })) None

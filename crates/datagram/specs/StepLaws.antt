@@ -1,13 +1,12 @@
 -- For a caller's loop over `segment_at`: what remains of an accepted datagram, segment by segment.
 -- `accepted` begins.
 -- Assumes nothing.
-use Rattle.std.specs.Prelude.{◌≡◌, refl, List, ◌∷◌, ℕ, ◌+◌, ◌-◌, ◌≤◌, take, drop}
+use Rattle.std.specs.Prelude.{◌≡◌, Ok, Err, refl, List, ◌∷◌, ℕ, ◌+◌, ◌-◌, ◌≤◌, take, drop}
 use Rattle.std.proofs.Common.{sym, ◌∙◌, arith}
 use Rattle.std.proofs.Math.Decide.{dec_le}
 use Rattle.std.proofs.Math.ListN.{length}
 use Rattle.wire.specs.declared.Header.{Header}
 use Rattle.protocol.specs.declared.Refusal.{Refusal}
-use Rattle.datagram.specs.declared.Checked.TheVariants.{Accepted, Refused}
 use Rattle.datagram.specs.Datagrams.{Segment, Parsed, refused, segments, walk, parse, counted}
 use Rattle.datagram.specs.WalkLaws.{Passed, parse_long, parse_short}
 
@@ -25,7 +24,7 @@ pub record Begun (conv mss : ℕ) (s : List ℕ) (n : ℕ) : Type 0 where
   pub count : n ≡ length all
   pub remaining : Remaining conv mss s 0 all
 
-pub was_refused : (n : ℕ) (p : Parsed) (r : Refusal) → counted n p ≡ Refused r → p ≡ refused r
+pub was_refused : (n : ℕ) (p : Parsed) (r : Refusal) → counted n p ≡ Err r → p ≡ refused r
 was_refused n (refused q) r e = cc
 was_refused n (segments gs) r e = absurd (let z : ◌≡◌ {A = ℕ} 0 1 = cc in omega arith)
 
@@ -37,7 +36,7 @@ module _ (conv mss : ℕ) (s : List ℕ) where
       go (yes h) = record { inside = omega arith; walked = sym (parse_long conv mss s h) ∙ e }
       go (no h) = absurd (let p = sym (parse_short conv mss s (omega arith)) ∙ e in let z : ◌≡◌ {A = ℕ} 0 1 = cc in omega arith)
 
-  pub accepted : (n : ℕ) → counted 0 (parse conv mss s) ≡ Accepted n → Begun conv mss s n
+  pub accepted : (n : ℕ) → counted 0 (parse conv mss s) ≡ Ok n → Begun conv mss s n
   accepted n e = go (parse conv mss s) refl
     where
       go : (p : Parsed) → parse conv mss s ≡ p → Begun conv mss s n

@@ -1,6 +1,6 @@
 -- How the walk over a datagram goes on.
 -- Assumes nothing.
-use Rattle.std.specs.Prelude.{◌≡◌, Bool, true, false, cond, ◌&&◌, length, drop}
+use Rattle.std.specs.Prelude.{◌≡◌, Ok, Err, Bool, true, false, cond, ◌&&◌, length, drop}
 use Rattle.std.proofs.Math.Path.{refl}
 use Rattle.std.proofs.Common.{ap, add_assoc, le-leb, leb-true, eqb-true, eq-eqb, length-drop, drop-drop}
 use mathlib.Core.List.{List, [], ◌∷◌}
@@ -13,12 +13,10 @@ use Rattle.protocol.specs.Protocol.{push, window_tell, fragment_most}
 use Rattle.wire.specs.declared.Header.{Header}
 use Rattle.protocol.specs.declared.Refusal.{Refusal}
 use Rattle.protocol.specs.declared.Refusal.TheVariants.{ShortDatagram, TrailingBytes}
-use Rattle.datagram.specs.declared.Verdict.{Verdict}
-use Rattle.datagram.specs.declared.Verdict.TheVariants.{Passes, Fails}
-use Rattle.datagram.specs.declared.Checked.TheVariants.{Accepted}
 use Rattle.datagram.specs.Datagrams.{
   Segment,
   of_push,
+  Verdict,
   verdict,
   segment_of,
   Parsed,
@@ -63,7 +61,7 @@ pub record Passed (conv mss room : ℕ) (h : Header) : Type 0 where
   pub fragment : h.cmd ≡ push → h.frg ≤ fragment_most
 
 -- a test whose refusal is not given holds
-holds : (b : Bool) (v : Verdict) (r : Refusal) → cond b v (Fails r) ≡ Passes → (b ≡ true) × (v ≡ Passes)
+holds : (b : Bool) (v : Verdict) (r : Refusal) → cond b v (Err r) ≡ Ok tt → (b ≡ true) × (v ≡ Ok tt)
 holds true v r e = (refl, e)
 holds false v r e = absurd (let z : ◌≡◌ {A = ℕ} 0 1 = cc in omega arith)
 
@@ -74,7 +72,7 @@ both false b e = absurd (let z : ◌≡◌ {A = ℕ} 0 1 = cc in omega arith)
 of_push_lem : (h : Header) (b : Bool) → h.cmd ≡ push → of_push h b ≡ true → b ≡ true
 of_push_lem h b p e = rw (eq-eqb h.cmd push p) at e
 
-pub passed : (conv mss room : ℕ) (h : Header) → verdict conv mss room h ≡ Passes → Passed conv mss room h
+pub passed : (conv mss room : ℕ) (h : Header) → verdict conv mss room h ≡ Ok tt → Passed conv mss room h
 unfolding verdict
 passed conv mss room h e =
     let a = holds _ _ _ e in
@@ -95,9 +93,9 @@ passed conv mss room h e =
 -- ---- the walk
 
 -- a segment in front is one more
-pub counted_front : (n : ℕ) (g : Segment) (p : Parsed) → counted n (in_front Passes g p) ≡ counted (n + 1) p
+pub counted_front : (n : ℕ) (g : Segment) (p : Parsed) → counted n (in_front (Ok tt) g p) ≡ counted (n + 1) p
 counted_front n g (refused r) = refl
-counted_front n g (segments gs) = ap Accepted (omega arith)
+counted_front n g (segments gs) = ap Ok (omega arith)
 
 module _ (conv mss : ℕ) where
   -- bytes to skip are bytes dropped

@@ -5,105 +5,79 @@ ghost use Rattle.std.specs.Prelude.{◌≡◌};
 ghost use Rattle.datagram.specs.Datagrams.{verdict, parse, counted, step_at};
 
 use protocol::{Protocol, Refusal};
-use wire::{Found, Header};
+use wire::Header;
 
-// Whether a segment passes the tests, or the refusal of the first that fails.
+// A whole segment of a datagram: its header, and its payload from `start` up to `next`, where the next segment begins.
 #[derive(Clone, Copy)]
-pub enum Verdict {
-    Passes,
-    Fails(Refusal),
-}
-
-// Whether a datagram is accepted, with the count of its segments, or why it is refused.
-#[derive(Clone, Copy)]
-pub enum Checked {
-    Accepted(usize),
-    Refused(Refusal),
-}
-
-// What stands at a position of a datagram: a whole segment, its payload from `start` up to `next`, or none.
-#[derive(Clone, Copy)]
-pub enum Step {
-    Segment {
-        header: Header,
-        start: usize,
-        next: usize,
-    },
-    End,
+pub struct Segment {
+    pub header: Header,
+    pub start: usize,
+    pub next: usize,
 }
 
 // The tests of a header that has `room` bytes behind it, in turn.
-fn judge(h: Header, room: usize, conv: u32, mss: usize) -> Verdict
+fn judge(h: Header, room: usize, conv: u32, mss: usize) -> Result<(), Refusal>
     ensures { result ≡ verdict conv mss room h }
 {
     let len = h.len as usize;
     if h.conv != conv {
-        return Verdict::Fails(Refusal::OtherConversation);
+        return Err(Refusal::OtherConversation);
     }
     if room < len {
-        return Verdict::Fails(Refusal::LengthPastEnd);
+        return Err(Refusal::LengthPastEnd);
     }
     if h.cmd < Protocol::PUSH {
-        return Verdict::Fails(Refusal::UnknownCommand);
+        return Err(Refusal::UnknownCommand);
     }
     if Protocol::WINDOW_TELL < h.cmd {
-        return Verdict::Fails(Refusal::UnknownCommand);
+        return Err(Refusal::UnknownCommand);
     }
     if h.cmd != Protocol::PUSH {
-        return Verdict::Passes;
+        return Ok(());
     }
     if mss < len {
-        return Verdict::Fails(Refusal::LongPayload);
+        return Err(Refusal::LongPayload);
     }
     if Protocol::FRAGMENT_MOST < h.frg {
-        return Verdict::Fails(Refusal::HighFragment);
+        return Err(Refusal::HighFragment);
     }
-    Verdict::Passes
+    Ok(())
 }
 
 // Counts the datagram's segments; the first that fails a test decides, and then a tail of 1 to 23 bytes behind the last.
-pub fn check(s: &[u8], conv: u32, mss: usize) -> Checked
+pub fn check(s: &[u8], conv: u32, mss: usize) -> Result<usize, Refusal>
     ensures { result ≡ counted 0 (parse conv mss s.now) }
 {
     if s.len() < Protocol::HEADER {
-        return Checked::Refused(Refusal::ShortDatagram);
+        return Err(Refusal::ShortDatagram);
     }
     let mut at = 0;
     let mut count = 0;
-    loop {
-        let found = wire::codec::find_header(s, at);
-        let Found::Whole(h) = found else {
-            if at < s.len() {
-                return Checked::Refused(Refusal::TrailingBytes);
-            }
-            return Checked::Accepted(count);
-        };
+    while let Some(h) = wire::codec::find_header(s, at) {
         let start = at + Protocol::HEADER;
-        let verdict = judge(h, s.len() - start, conv, mss);
-        if let Verdict::Fails(r) = verdict {
-            return Checked::Refused(r);
-        }
+        judge(h, s.len() - start, conv, mss)?;
         at = start + (h.len as usize);
         count += 1;
     }
+    if at < s.len() {
+        return Err(Refusal::TrailingBytes);
+    }
+    Ok(count)
 }
 
 // The segment at `at`. From 0 on, and then at each `next`, these are the segments of a datagram that `check` accepts.
-pub fn segment_at(s: &[u8], at: usize) -> Step
+pub fn segment_at(s: &[u8], at: usize) -> Option<Segment>
     ensures { result ≡ step_at s.now at }
 {
-    let found = wire::codec::find_header(s, at);
-    let Found::Whole(header) = found else {
-        return Step::End;
-    };
+    let header = wire::codec::find_header(s, at)?;
     let start = at + Protocol::HEADER;
     let len = header.len as usize;
     if s.len() - start < len {
-        return Step::End;
+        return None;
     }
-    Step::Segment {
+    Some(Segment {
         header,
         start,
         next: start + len,
-    }
+    })
 }

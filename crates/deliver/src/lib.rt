@@ -10,7 +10,7 @@ ghost use Rattle.promises.specs.Answers.{count_outcome, size_of};
 ghost use Rattle.arriving.specs.Arrivals.{WholeLists, Fits};
 ghost use Rattle.deliver.specs.Messages.{InPool, fitting_of, FitsIn, Taken};
 
-use answers::Count;
+use answers::Answer;
 use control::Arrival;
 use protocol::Refusal;
 
@@ -85,33 +85,27 @@ fn copy_first(pool: &[u8], mss: usize, ready: &[u32; 128], k: usize, out: &mut [
 }
 
 // The length of the message at the front; 9 where none can be read.
-pub fn front_size(ready: &[u32; 128], n: usize) -> Count
+pub fn front_size(ready: &[u32; 128], n: usize) -> Answer<usize>
     requires { (length ready.now ≡ 128) × (n ≤ 128) }
     ensures { count_outcome result ≡ size_of (held_in ready.now n) }
 {
     let k = front_count(ready, n);
     if (0 < k) & (k <= n) {
-        return Count::Of(total(ready, k));
+        return Ok(total(ready, k));
     }
-    Count::Refused(Refusal::NoMessage)
+    Err(Refusal::NoMessage)
 }
 
 // The same, and 7 where it is longer than the room.
-pub fn fitting(ready: &[u32; 128], n: usize, room: usize) -> Count
+pub fn fitting(ready: &[u32; 128], n: usize, room: usize) -> Answer<usize>
     requires { (length ready.now ≡ 128) × (n ≤ 128) }
     ensures { count_outcome result ≡ fitting_of (held_in ready.now n) room }
 {
-    let front = front_size(ready, n);
-    match front {
-        Count::Of(size) => {
-            if size <= room {
-                Count::Of(size)
-            } else {
-                Count::Refused(Refusal::ShortPart)
-            }
-        }
-        Count::Refused(r) => Count::Refused(r),
+    let size = front_size(ready, n)?;
+    if room < size {
+        return Err(Refusal::ShortPart);
     }
+    Ok(size)
 }
 
 // The message at the front, for which there is room, is stored at the start of `out`. Its segments are freed, and waiting ones

@@ -1,14 +1,12 @@
 -- The headers of a datagram of bytes: each field fits its bytes.
 -- Assumes nothing.
-use Rattle.std.specs.Prelude.{Bool, true, false, cond, List, [], ◌∷◌, ℕ, zero, suc, ◌+◌, ◌-◌, ◌^◌, ◌<◌, leb, length}
+use Rattle.std.specs.Prelude.{Ok, Err, Bool, true, false, cond, List, [], ◌∷◌, ℕ, zero, suc, ◌+◌, ◌-◌, ◌^◌, ◌<◌, leb, length}
 use Rattle.std.proofs.Math.Nat.{pow-succ'}
 use Rattle.std.proofs.Common.{arith}
 use Rattle.protocol.specs.Protocol.{header_size}
 use Rattle.wire.specs.LittleEndian.{number_at, AllBytes}
 use Rattle.wire.specs.Headers.{decode, FieldsFit}
-use Rattle.datagram.specs.declared.Verdict.{Verdict}
-use Rattle.datagram.specs.declared.Verdict.TheVariants.{Passes, Fails}
-use Rattle.datagram.specs.Datagrams.{Segment, verdict, segment_of, Parsed, in_front, tail, walk, parse}
+use Rattle.datagram.specs.Datagrams.{Verdict, Segment, verdict, segment_of, Parsed, in_front, tail, walk, parse}
 use Rattle.session.specs.Decides.{All}
 
 pub number_at_below : (k : ℕ) (s : List ℕ) (i : ℕ) → AllBytes s → number_at k s i < 256 ^ k
@@ -39,9 +37,9 @@ Each P (Parsed.segments gs) = All P gs
 
 module _ (P : Segment → Type 0) where
   in_front_lem : (v : Verdict) (g : Segment) (p : Parsed) → P g → Each P p → Each P (in_front v g p)
-  in_front_lem Passes g (Parsed.refused r) h k = tt
-  in_front_lem Passes g (Parsed.segments gs) h k = (h, k)
-  in_front_lem (Fails r) g p h k = tt
+  in_front_lem (Ok _) g (Parsed.refused r) h k = tt
+  in_front_lem (Ok _) g (Parsed.segments gs) h k = (h, k)
+  in_front_lem (Err r) g p h k = tt
 
   either : (b : Bool) (p q : Parsed) → Each P p → Each P q → Each P (cond b p q)
   either true p q h k = h

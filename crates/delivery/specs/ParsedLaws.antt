@@ -1,6 +1,6 @@
 -- What holds of every segment that a link takes in, whatever bytes the datagram has.
 -- Assumes nothing.
-use Rattle.std.specs.Prelude.{◌≡◌, Bool, cond, length}
+use Rattle.std.specs.Prelude.{◌≡◌, Ok, Err, Bool, cond, length}
 use Rattle.std.proofs.Math.Path.{refl}
 use Rattle.std.proofs.Math.Bool.{true, false}
 use mathlib.Core.List.{List, [], ◌∷◌}
@@ -11,10 +11,8 @@ use Rattle.protocol.specs.Protocol.{push, header_size, fragment_most}
 use Rattle.wire.specs.LittleEndian.{AllBytes}
 use Rattle.wire.specs.Headers.{decode, FieldsFit}
 use Rattle.protocol.specs.declared.Refusal.TheVariants.{ShortDatagram}
-use Rattle.datagram.specs.Datagrams.{Segment, Parsed, verdict, segment_of, in_front, tail, walk, parse}
+use Rattle.datagram.specs.Datagrams.{Segment, Parsed, Verdict, verdict, segment_of, in_front, tail, walk, parse}
 use Rattle.datagram.specs.WalkLaws.{passed}
-use Rattle.datagram.specs.declared.Verdict.{Verdict}
-use Rattle.datagram.specs.declared.Verdict.TheVariants.{Passes, Fails}
 use Rattle.delivery.specs.HeaderRange.{decode_fits, Each}
 
 -- its fields have their widths, its payload has len bytes, and a push passes 5 and 6
@@ -25,7 +23,7 @@ pub record SegmentFits (m : ℕ) (g : Segment) : Type 0 where
   pub push_fragment : g.header.cmd ≡ push → g.header.frg ≤ fragment_most
 
 module _ (conv m : ℕ) where
-  segment_fits : (s : List ℕ) → AllBytes s → header_size ≤ length s → verdict conv m (length s - header_size) (decode s 0) ≡ Passes
+  segment_fits : (s : List ℕ) → AllBytes s → header_size ≤ length s → verdict conv m (length s - header_size) (decode s 0) ≡ Ok tt
       → SegmentFits m (segment_of s)
   unfolding segment_of
   segment_fits s b h e =
@@ -37,11 +35,11 @@ module _ (conv m : ℕ) where
         push_fragment = p.fragment;
       }
 
-  in_front_fits : (v : Verdict) (g : Segment) (x : Parsed) → (v ≡ Passes → SegmentFits m g) → Each (SegmentFits m) x
+  in_front_fits : (v : Verdict) (g : Segment) (x : Parsed) → (v ≡ Ok tt → SegmentFits m g) → Each (SegmentFits m) x
       → Each (SegmentFits m) (in_front v g x)
-  in_front_fits Passes g (Parsed.refused r) f a = tt
-  in_front_fits Passes g (Parsed.segments gs) f a = (f refl, a)
-  in_front_fits (Fails r) g x f a = tt
+  in_front_fits (Ok _) g (Parsed.refused r) f a = tt
+  in_front_fits (Ok _) g (Parsed.segments gs) f a = (f refl, a)
+  in_front_fits (Err r) g x f a = tt
 
   walk_fits : (skip : ℕ) (s : List ℕ) → AllBytes s → Each (SegmentFits m) (walk conv m skip s)
   unfolding walk tail

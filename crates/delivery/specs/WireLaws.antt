@@ -1,7 +1,7 @@
 -- The segments that a flush writes: a link of the same settings takes each of them, none is longer than mtu, and all together they
 -- are at most 290 segments and 50,992 bytes.
 -- Assumes nothing.
-use Rattle.std.specs.Prelude.{◌≡◌, Bool, true, false, cond, List, [], ◌∷◌, ◌++◌, map, ℕ, ◌*◌, ◌^◌, ◌≤◌, ◌<◌, eqb, leb, length, take, drop}
+use Rattle.std.specs.Prelude.{◌≡◌, Ok, Bool, true, false, cond, List, [], ◌∷◌, ◌++◌, map, ℕ, ◌*◌, ◌^◌, ◌≤◌, ◌<◌, eqb, leb, length, take, drop}
 use Rattle.std.proofs.Math.Path.{refl}
 use Rattle.std.proofs.Common.{sym, zero-le, mul-le-mul_right, arith, eqb-true, eq-eqb, le-leb, length-take, length-drop, length-append}
 use Rattle.std.proofs.lemmas.List.{length-map}
@@ -22,7 +22,6 @@ use Rattle.protocol.specs.Protocol.{
 use Rattle.protocol.specs.Ranges.{in_range, mss}
 use Rattle.wire.specs.Headers.{encode}
 use Rattle.wire.specs.declared.Header.{Header}
-use Rattle.datagram.specs.declared.Verdict.TheVariants.{Passes}
 use Rattle.datagram.specs.Datagrams.{Segment, of_push, verdict}
 use Rattle.datagram.specs.WalkLaws.{Passed}
 use Rattle.datagram.specs.Joined.{Valid}
@@ -44,7 +43,7 @@ of_push_lem h b f = go (eqb h.cmd push) refl
     go true e = f (eqb-true h.cmd push e)
     go false e = refl
 
-pub passes : (conv m room : ℕ) (h : Header) → Passed conv m room h → verdict conv m room h ≡ Passes
+pub passes : (conv m room : ℕ) (h : Header) → Passed conv m room h → verdict conv m room h ≡ Ok tt
 unfolding verdict
 passes conv m room h p =
     rw (

@@ -1,6 +1,6 @@
 -- Which refusals a call gives that passes the checks of 7 and 13: never 13, and 7 only for a read's buffer.
 -- Assumes nothing.
-use Rattle.std.specs.Prelude.{◌≡◌, Bool, true, false, cond, not, ◌&&◌, leb, ltb, eqb, length}
+use Rattle.std.specs.Prelude.{◌≡◌, Ok, Err, Bool, true, false, cond, not, ◌&&◌, leb, ltb, eqb, length}
 use Rattle.std.proofs.Math.Path.{refl}
 use Rattle.std.proofs.Common.{sym, ap, ◌∙◌, true≢false, arith, leb-false}
 use mathlib.Core.List.{List, [], ◌∷◌}
@@ -23,9 +23,7 @@ use Rattle.protocol.specs.declared.Refusal.TheVariants.{
 }
 use Rattle.wire.specs.Headers.{decode}
 use Rattle.wire.specs.declared.Header.{Header}
-use Rattle.datagram.specs.declared.Verdict.{Verdict}
-use Rattle.datagram.specs.declared.Verdict.TheVariants as verdict
-use Rattle.datagram.specs.Datagrams.{Segment, of_push, verdict, segment_of, Parsed, in_front, tail, walk, parse}
+use Rattle.datagram.specs.Datagrams.{Segment, Verdict, of_push, verdict, segment_of, Parsed, in_front, tail, walk, parse}
 use Rattle.session.specs.State.{State, Outcome, send_held, slots, with_receiving}
 use Rattle.session.specs.Sending.{Sends, sending}
 use Rattle.session.specs.Input.{Took, taking, input}
@@ -49,8 +47,8 @@ Clear (Outcome.done x) = Unit {0}
 
 -- the refusals of a verdict and of a datagram
 abbrev ClearVerdict : Verdict → Type 0
-ClearVerdict verdict.Passes = Unit {0}
-ClearVerdict (verdict.Fails r) = clear (number_of r) ≡ true
+ClearVerdict (Ok _) = Unit {0}
+ClearVerdict (Err r) = clear (number_of r) ≡ true
 
 abbrev ClearParsed : Parsed → Type 0
 ClearParsed (Parsed.refused r) = clear (number_of r) ≡ true
@@ -68,9 +66,9 @@ verdict_clear conv m room h =
     go : (conversation inside command payload fragment : Bool)
         → ClearVerdict
         (cond conversation
-        (cond inside (cond command (cond payload (cond fragment verdict.Passes (verdict.Fails HighFragment)) (verdict.Fails LongPayload))
-        (verdict.Fails UnknownCommand)) (verdict.Fails LengthPastEnd))
-        (verdict.Fails OtherConversation))
+        (cond inside (cond command (cond payload (cond fragment (Ok tt) (Err HighFragment)) (Err LongPayload))
+        (Err UnknownCommand)) (Err LengthPastEnd))
+        (Err OtherConversation))
     go false b c d e = refl
     go true false c d e = refl
     go true true false d e = refl
@@ -79,9 +77,9 @@ verdict_clear conv m room h =
     go true true true true true = tt
 
 front_clear : (v : Verdict) (g : Segment) (p : Parsed) → ClearVerdict v → ClearParsed p → ClearParsed (in_front v g p)
-front_clear verdict.Passes g (Parsed.refused r) a b = b
-front_clear verdict.Passes g (Parsed.segments gs) a b = tt
-front_clear (verdict.Fails r) g p a b = a
+front_clear (Ok _) g (Parsed.refused r) a b = b
+front_clear (Ok _) g (Parsed.segments gs) a b = tt
+front_clear (Err r) g p a b = a
 
 either_clear : (b : Bool) (p q : Parsed) → ClearParsed p → ClearParsed q → ClearParsed (cond b p q)
 either_clear true p q h k = h

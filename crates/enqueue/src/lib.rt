@@ -18,7 +18,7 @@ use protocol::{Protocol, Refusal};
 // The answer, and how many are queued after it.
 #[derive(Clone, Copy)]
 pub struct Enqueued {
-    pub answer: Answer,
+    pub answer: Answer<()>,
     pub queued: usize,
 }
 
@@ -170,20 +170,20 @@ pub fn enqueue(
     let full = Protocol::SEND_SLOTS < m + n + count;
     if long {
         return Enqueued {
-            answer: Answer::Refused(Refusal::LongMessage),
+            answer: Err(Refusal::LongMessage),
             queued: n,
         };
     }
     if full {
         return Enqueued {
-            answer: Answer::Refused(Refusal::NoFreeSlots),
+            answer: Err(Refusal::NoFreeSlots),
             queued: n,
         };
     }
     fill(mss, queued, n, room, pool, message, first);
     let after = place(stream, mss, queued, n, marks, pool, message, first, count);
     Enqueued {
-        answer: Answer::Accepted,
+        answer: Ok(()),
         queued: after,
     }
 }

@@ -14,7 +14,6 @@ use Rattle.protocol.specs.declared.Settings.{Settings}
 use Rattle.record_words.specs.RecordWords.{records_in}
 use Rattle.session.specs.State.{State}
 use Rattle.session.specs.Flushing.{numbered_count, bytes_of_segments, flushing}
-use Rattle.answers.specs.declared.Update.TheVariants as update
 use Rattle.words.specs.Words.{unpack, held_in}
 use Rattle.control.specs.declared.Flight.{Flight}
 use Rattle.control.specs.declared.Arrival.{Arrival}
@@ -33,6 +32,7 @@ use Rattle.transmit.specs.IdleLaws.{idle}
 use Rattle.flush_core.specs.declared.parts.Plan.{Plan}
 use Rattle.flush_core.specs.Parts.{goes_by, Plans, window_in, with_losses, Moves, cleared_of}
 use Rattle.flush_core.specs.Flushes.{put_back, Wrote}
+use Rattle.std.specs.Prelude.{Ok, Some}
 
 module _ (c : Settings) (f : Flight) (a : Arrival) (k : Clock) (queued outstanding transmissions ready waiting numbers : List ℕ)
     (records acks : List ℕ) (t : ℕ) where
@@ -142,11 +142,11 @@ module _ (c : Settings) (f : Flight) (a : Arrival) (k : Clock) (queued outstandi
           go false h = inr (rw h at e, idle before t pool (sym written.sends ∙ h))
 
       pub runs : (changed : ℕ) → changed ≡ cond w.sent f'.outstanding 0 → Wrote block (records_in records) pool acks t out lengths
-          (record { answer = update.Wrote w.count; flight = f'; arrival = a'; clock = k'; changed = changed })
+          (record { answer = Ok (Some w.count); flight = f'; arrival = a'; clock = k'; changed = changed })
           after (records_in records'') out' lengths'
       runs changed e =
           let number = written.output.number ∙ length-map (flushing before t pool).datagrams bytes_of_segments in (
-            ap update.Wrote number,
+            ap (λ (n : ℕ). Ok (Some n)) number,
             record {
               answer = refl;
               counts = counts_fit_lem;

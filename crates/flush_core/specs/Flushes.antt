@@ -1,6 +1,6 @@
 -- What the core of a flush and of an update leaves. Definitions.
 -- Assumes nothing.
-use Rattle.std.specs.Prelude.{◌≡◌, Bool, true, false, List, ℕ, ◌*◌, ◌≤◌, length}
+use Rattle.std.specs.Prelude.{◌≡◌, Bool, true, false, List, ℕ, ◌*◌, ◌≤◌, length, Err, Ok, Some}
 use Rattle.protocol.specs.Protocol.{send_slots, acks_most, output_least, lengths_least}
 use Rattle.protocol.specs.Ranges.{in_range, mss}
 use Rattle.protocol.specs.declared.Settings.{Settings}
@@ -10,10 +10,6 @@ use Rattle.session.specs.State.{Outcome, done}
 use Rattle.session.specs.Flushing as session
 use Rattle.session.specs.Flushing.{flushing}
 use Rattle.session.specs.Updating.{flushes, updating}
-use Rattle.answers.specs.declared.Count.{Count}
-use Rattle.answers.specs.declared.Count.TheVariants as count
-use Rattle.answers.specs.declared.Update.{Update}
-use Rattle.answers.specs.declared.Update.TheVariants as update
 use Rattle.control.specs.declared.Flight.{Flight}
 use Rattle.control.specs.declared.Arrival.{Arrival}
 use Rattle.control.specs.declared.Clock.{Clock}
@@ -24,6 +20,7 @@ use Rattle.promises.specs.Parts.{lent_lengths}
 use Rattle.promises.specs.Outcomes.{flushes_with, updates_with}
 use Rattle.promises.specs.Cores.{PutBack, FlushCore, UpdateCore}
 use Rattle.flush_core.specs.declared.Flushed.{Flushed}
+use Rattle.answers.specs.Answers.{Count, Update}
 
 -- ---- after the checks
 
@@ -61,8 +58,8 @@ Wrote l records pool acks t out lengths r l' records' out' lengths' =
 
 -- the answer of a flush as that of an update
 abbrev pub update_of : Count → Update
-update_of (count.Of n) = update.Wrote n
-update_of (count.Refused r) = update.Refused r
+update_of (Ok n) = Ok (Some n)
+update_of (Err r) = Err r
 
 -- what a flush leaves, with its count
 abbrev pub FlushLeaves : Outcome session.Flushed → Link → List Record → List ℕ → List ℕ → List ℕ → Flushed → Link → List Record

@@ -9,8 +9,8 @@ ghost use Rattle.checking.specs.Verdicts.{Sounds};
 ghost use Rattle.record_words.specs.RecordWords.{records_in};
 ghost use Rattle.flush_core.specs.Flushes.{Flushable, unflushed_of, Wrote, Runs, Core};
 
-use answers::Update;
-use checking::{Verdict, flights};
+use answers::Answer;
+use checking::flights;
 use control::{Arrival, Clock, Flight};
 use protocol::Settings;
 use sizes::Lengths;
@@ -19,7 +19,7 @@ use sizes::Lengths;
 // are to be put back into the table: all of them, or none where none was sent.
 #[derive(Clone, Copy)]
 pub struct Flushed {
-    pub answer: Update,
+    pub answer: Answer<Option<usize>>,
     pub flight: Flight,
     pub arrival: Arrival,
     pub clock: Clock,
@@ -27,7 +27,7 @@ pub struct Flushed {
 }
 
 // What did not flush, or was refused: the numbers are those given, and nothing is to be put back.
-fn unflushed(answer: Update, flight: Flight, arrival: Arrival, clock: Clock) -> Flushed
+fn unflushed(answer: Answer<Option<usize>>, flight: Flight, arrival: Arrival, clock: Clock) -> Flushed
     ensures { result ≡ unflushed_of answer flight arrival clock }
 {
     Flushed {
@@ -87,7 +87,7 @@ fn flush_now(
     let moved = parts::moved(clock, plan.probe, written.dead, t);
     let cleared = parts::cleared(arrival);
     Flushed {
-        answer: Update::Wrote(written.count),
+        answer: Ok(Some(written.count)),
         flight: after,
         arrival: cleared,
         clock: moved,
@@ -143,7 +143,7 @@ fn run(
         )
     } else {
         let waits = parts::current(next.clock, t);
-        unflushed(Update::Waited, flight, arrival, waits)
+        unflushed(Ok(None), flight, arrival, waits)
     }
 }
 
@@ -194,7 +194,7 @@ pub fn flush(
     let flown = flights::flight_fits(records, settings, flight);
     let verdict = checking::judged(long, sound & flown);
     match verdict {
-        Verdict::Passed => run(
+        Ok(()) => run(
             settings,
             flight,
             arrival,
@@ -210,6 +210,6 @@ pub fn flush(
             output,
             lengths,
         ),
-        Verdict::Refused(refusal) => unflushed(Update::Refused(refusal), flight, arrival, clock),
+        Err(refusal) => unflushed(Err(refusal), flight, arrival, clock),
     }
 }

@@ -15,16 +15,15 @@ ghost use Rattle.datagram.specs.StepLaws.{Begun};
 ghost use Rattle.input_core.specs.Taking.{checked_by, Hearable, grown_from, Takes};
 
 use answers::Answer;
-use checking::{Verdict, flights};
+use checking::flights;
 use control::{Arrival, Clock, Flight};
-use datagram::Checked;
 use protocol::Settings;
 use sizes::Lengths;
 
 // The answer, the numbers of both halves, and how many records go back into the table: the first ones, by their words.
 #[derive(Clone, Copy)]
 pub struct Taken {
-    pub answer: Answer,
+    pub answer: Answer<()>,
     pub flight: Flight,
     pub arrival: Arrival,
     pub changed: usize,
@@ -43,12 +42,12 @@ fn grown(settings: Settings, before: Flight, after: Flight) -> Flight
 }
 
 // What the checks of 7 and 13 say, then those of the datagram, 1 to 6 and 14.
-fn checked_by(verdict: Verdict, datagram: &[u8], conv: u32, mss: usize) -> Checked
+fn checked_by(verdict: Answer<()>, datagram: &[u8], conv: u32, mss: usize) -> Answer<usize>
     ensures { result ≡ checked_by verdict (counted 0 (parse conv mss datagram.now)) }
 {
     match verdict {
-        Verdict::Passed => datagram::check(datagram, conv, mss),
-        Verdict::Refused(refusal) => Checked::Refused(refusal),
+        Ok(()) => datagram::check(datagram, conv, mss),
+        Err(refusal) => Err(refusal),
     }
 }
 
@@ -107,7 +106,7 @@ fn hear(
     );
     let after = grown(settings, flight, sent);
     Taken {
-        answer: Answer::Accepted,
+        answer: Ok(()),
         flight: after,
         arrival: received,
         changed: after.outstanding,
@@ -162,9 +161,9 @@ pub fn input(
     let verdict = checking::judged(long, sound & flown);
     let mss = settings.mss();
     let checked = checked_by(verdict, datagram, settings.conv, mss);
-    if let Checked::Refused(q) = checked {
+    if let Err(q) = checked {
         return Taken {
-            answer: Answer::Refused(q),
+            answer: Err(q),
             flight,
             arrival,
             changed: 0,

@@ -1,6 +1,6 @@
 -- Laws of `Listings`: what is listed, and text put behind text.
 -- Assumes nothing.
-use Rattle.std.specs.Prelude.{◌≡◌, List, [], ◌∷◌, ◌++◌, ℕ, ◌+◌, ◌≤◌, ◌<◌, length}
+use Rattle.std.specs.Prelude.{◌≡◌, Ok, Err, List, [], ◌∷◌, ◌++◌, ℕ, ◌+◌, ◌≤◌, ◌<◌, length}
 use Rattle.std.proofs.Common.{◌∙◌, append_assoc, zero-add, add_assoc, arith, le-leb, length-append}
 use Rattle.std.proofs.Math.Decide.{dec_le}
 use Rattle.std.proofs.lemmas.Bool.{lt-leb}
@@ -11,7 +11,6 @@ use Rattle.protocol.specs.declared.Refusal.{Refusal}
 use Rattle.protocol.specs.declared.Refusal.TheVariants.{ShortPart}
 use Rattle.datagram.specs.Datagrams.{Segment, parse, refused}
 use Rattle.datagram.specs.StepLaws.{Begun, accepted, was_refused}
-use Rattle.datagram.specs.declared.Checked.TheVariants.{Accepted, Refused}
 use Rattle.listing.specs.declared.Line.{Line}
 use Rattle.listing.specs.Lines.{column_line, segment_line, count_line, refusal_line, text_of, Holds}
 use Rattle.listing.specs.Listings.{listed, judged, segment_lines, body, listing_of, WroteListing}
@@ -25,7 +24,7 @@ pub listed_parse : (s : List ℕ) → length s ≤ 65536 → listed s ≡ parse 
 unfolding listed
 listed_parse s h = rw (le-leb _ _ h)
 
-pub body_refused : (s : List ℕ) (r : Refusal) → judged s ≡ Refused r → body (listed s) ≡ refusal_line r
+pub body_refused : (s : List ℕ) (r : Refusal) → judged s ≡ Err r → body (listed s) ≡ refusal_line r
 unfolding body
 body_refused s r e = rw (was_refused 0 (listed s) r e)
 
@@ -35,7 +34,7 @@ pub record ListedAll (s : List ℕ) (n : ℕ) : Type 0 where
   pub begun : Begun (number_at 4 s 0) 488 s n
   pub lines : body (listed s) ≡ segment_lines begun.all ++ count_line n
 
-pub listed_all : (s : List ℕ) (n : ℕ) → judged s ≡ Accepted n → ListedAll s n
+pub listed_all : (s : List ℕ) (n : ℕ) → judged s ≡ Ok n → ListedAll s n
 unfolding body
 listed_all s n e = go (dec_le (length s) 65536)
   where
@@ -93,7 +92,7 @@ left_last was i t now j gs last line k is l e h w = left_all was i t now j last 
 -- ---- the whole listing
 
 pub wrote_refused : (s : List ℕ) (r : Refusal) (line : Line) (was : List ℕ) (i k : ℕ) (is : List ℕ) →
-    judged s ≡ Refused r → Holds (refusal_line r) line → Wrote was i (text_of line) k is → Wrote was i (body (listed s)) k is
+    judged s ≡ Err r → Holds (refusal_line r) line → Wrote was i (text_of line) k is → Wrote was i (body (listed s)) k is
 wrote_refused s r line was i k is e h w = rw (body_refused s r e) (rw h.text at w)
 
 pub wrote_none : (was s : List ℕ) → length was < 220000 → WroteListing was s 0 was

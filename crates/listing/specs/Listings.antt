@@ -4,8 +4,7 @@ use Rattle.std.specs.Prelude.{◌≡◌, cond, List, [], ◌∷◌, ◌++◌, �
 use Rattle.std.proofs.lemmas.List.Edits.{sets}
 use Rattle.wire.specs.LittleEndian.{number_at}
 use Rattle.protocol.specs.declared.Refusal.TheVariants.{ShortPart}
-use Rattle.datagram.specs.Datagrams.{Segment, Parsed, refused, segments, parse, counted}
-use Rattle.datagram.specs.declared.Checked.{Checked}
+use Rattle.datagram.specs.Datagrams.{Segment, Checked, Parsed, refused, segments, parse, counted}
 use Rattle.listing.specs.Lines.{column_line, segment_line, count_line, refusal_line}
 
 -- the most bytes that are taken, and the mss that is used

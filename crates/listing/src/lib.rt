@@ -8,9 +8,8 @@ ghost use Rattle.std.specs.Prelude.{◌≡◌};
 ghost use Rattle.listing.specs.Lines.{segment_line, count_line, refusal_line, Holds};
 ghost use Rattle.listing.specs.Listings.{judged, WroteListing};
 
-use datagram::Checked;
 use protocol::Refusal;
-use wire::{Found, Header};
+use wire::Header;
 
 // A line of text: the first `len` bytes.
 #[derive(Clone, Copy)]
@@ -49,15 +48,14 @@ pub fn refusal_line(r: Refusal) -> Line
 }
 
 // The count of a datagram's segments, or why it is refused. Its first four bytes are its conversation.
-pub fn judge(s: &[u8]) -> Checked
+pub fn judge(s: &[u8]) -> Result<usize, Refusal>
     ensures { result ≡ judged s.now }
 {
     if DATAGRAM_MOST < s.len() {
-        return Checked::Refused(Refusal::ShortPart);
+        return Err(Refusal::ShortPart);
     }
-    let found = wire::codec::find_header(s, 0);
-    let Found::Whole(first) = found else {
-        return Checked::Refused(Refusal::ShortDatagram);
+    let Some(first) = wire::codec::find_header(s, 0) else {
+        return Err(Refusal::ShortDatagram);
     };
     datagram::check(s, first.conv, MSS)
 }
@@ -70,9 +68,8 @@ pub fn listing(s: &[u8], out: &mut [u8]) -> usize
         return 0;
     }
     let at = out::put_text(out, 0, b"conv cmd frg wnd ts sn una len\n");
-    let checked = judge(s);
-    match checked {
-        Checked::Refused(r) => out::put_line(out, at, refusal_line(r)),
-        Checked::Accepted(n) => out::put_segments(out, at, s, n),
+    match judge(s) {
+        Err(r) => out::put_line(out, at, refusal_line(r)),
+        Ok(n) => out::put_segments(out, at, s, n),
     }
 }

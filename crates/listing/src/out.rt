@@ -1,12 +1,10 @@
 // Lines put into lent output.
-ghost use Rattle.std.specs.Prelude.{◌≡◌, ◌+◌, ◌≤◌, length};
-ghost use Rattle.datagram.specs.declared.Checked.TheVariants.{Accepted};
+ghost use Rattle.std.specs.Prelude.{◌≡◌, Ok, ◌+◌, ◌≤◌, length};
 ghost use Rattle.listing.specs.Lines.{text_of};
 ghost use Rattle.listing.specs.Listings.{listed, judged, body};
 ghost use Rattle.listing.specs.Puts.{Wrote};
 
 use crate::Line;
-use datagram::Step;
 
 // All of `s` at `at`, where there is room for it, and the place behind it.
 pub(crate) fn put_text(out: &mut [u8], at: usize, s: &[u8]) -> usize
@@ -34,22 +32,14 @@ pub(crate) fn put_line(out: &mut [u8], at: usize, line: Line) -> usize
 // The lines of an accepted datagram of n segments at `at`, and the place behind them. A segment has 24 bytes or more and a
 // line 80 at most, so the lines of 65,536 bytes are under 219,000.
 pub(crate) fn put_segments(out: &mut [u8], at: usize, s: &[u8], n: usize) -> usize
-    requires { (judged s.now ≡ Accepted n) × (at + 219000 ≤ length out.old) }
+    requires { (judged s.now ≡ Ok n) × (at + 219000 ≤ length out.old) }
     ensures { Wrote out.old at (body (listed s.now)) result out.new }
 {
     let mut here = at;
     let mut from = 0;
-    loop {
-        let step = datagram::segment_at(s, from);
-        let Step::Segment {
-            header,
-            start: _,
-            next,
-        } = step
-        else {
-            return put_line(out, here, crate::count_line(n));
-        };
-        here = put_line(out, here, crate::segment_line(header));
-        from = next;
+    while let Some(segment) = datagram::segment_at(s, from) {
+        here = put_line(out, here, crate::segment_line(segment.header));
+        from = segment.next;
     }
+    put_line(out, here, crate::count_line(n))
 }

@@ -146,11 +146,9 @@ impl Settings {
     pub fn in_range(self) -> bool
         ensures { result ≡ in_range self }
     {
-        (Protocol::MTU_LEAST <= self.mtu)
-            & (self.mtu <= Protocol::MTU_MOST)
+        (Protocol::MTU_LEAST..=Protocol::MTU_MOST).contains(&self.mtu)
             & (self.mode <= Protocol::MODE_MOST)
-            & (Protocol::INTERVAL_LEAST <= self.interval)
-            & (self.interval <= Protocol::INTERVAL_MOST)
+            & (Protocol::INTERVAL_LEAST..=Protocol::INTERVAL_MOST).contains(&self.interval)
             & (self.threshold <= Protocol::THRESHOLD_MOST)
             & (self.stream <= Protocol::STREAM_MOST)
             & (self.congestion <= Protocol::CONGESTION_MOST)
@@ -160,30 +158,26 @@ impl Settings {
     pub fn mss(self) -> usize
         ensures { result ≡ self.mtu - header_size }
     {
-        let mtu = self.mtu as usize;
-        if mtu < Protocol::HEADER {
-            return 0;
-        }
-        mtu - Protocol::HEADER
+        usize::from(self.mtu).saturating_sub(Protocol::HEADER)
     }
 }
 
-// Why a call is refused.
-#[derive(Clone, Copy)]
+// Why a call is refused; 8 is no refusal's number.
+#[derive(Clone, Copy, Debug, PartialEq, Eq)]
 pub enum Refusal {
-    ShortDatagram,
-    OtherConversation,
-    LengthPastEnd,
-    UnknownCommand,
-    LongPayload,
-    HighFragment,
-    ShortPart,
-    NoMessage,
-    LongMessage,
-    NoFreeSlots,
-    SettingOutOfRange,
-    InvalidBlock,
-    TrailingBytes,
+    ShortDatagram = 1,
+    OtherConversation = 2,
+    LengthPastEnd = 3,
+    UnknownCommand = 4,
+    LongPayload = 5,
+    HighFragment = 6,
+    ShortPart = 7,
+    NoMessage = 9,
+    LongMessage = 10,
+    NoFreeSlots = 11,
+    SettingOutOfRange = 12,
+    InvalidBlock = 13,
+    TrailingBytes = 14,
 }
 
 impl Refusal {
@@ -191,20 +185,6 @@ impl Refusal {
     pub fn number(self) -> u8
         ensures { result ≡ number_of self }
     {
-        match self {
-            Refusal::ShortDatagram => 1,
-            Refusal::OtherConversation => 2,
-            Refusal::LengthPastEnd => 3,
-            Refusal::UnknownCommand => 4,
-            Refusal::LongPayload => 5,
-            Refusal::HighFragment => 6,
-            Refusal::ShortPart => 7,
-            Refusal::NoMessage => 9,
-            Refusal::LongMessage => 10,
-            Refusal::NoFreeSlots => 11,
-            Refusal::SettingOutOfRange => 12,
-            Refusal::InvalidBlock => 13,
-            Refusal::TrailingBytes => 14,
-        }
+        self as u8
     }
 }

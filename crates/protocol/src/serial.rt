@@ -2,32 +2,25 @@
 ghost use Rattle.std.specs.Prelude.{◌≡◌};
 ghost use Rattle.protocol.specs.Serial.{plus, minus, signed, is_before, is_after, is_due};
 
-// Half of the 32-bit numbers: a difference of this or more is negative.
-const HALF: u32 = 2147483648;
-
 // a + b, modulo 2^32.
 pub fn sum(a: u32, b: u32) -> u32
     ensures { result ≡ plus a b }
 {
-    std::num::wrapping_add_u32(a, b)
+    a.wrapping_add(b)
 }
 
 // a - b, modulo 2^32.
 pub fn difference(a: u32, b: u32) -> u32
     ensures { result ≡ minus a b }
 {
-    std::num::wrapping_sub_u32(a, b)
+    a.wrapping_sub(b)
 }
 
 // A number read as signed.
 pub fn read_signed(x: u32) -> i64
     ensures { result ≡ signed x }
 {
-    if x < HALF {
-        x as i64
-    } else {
-        (x as i64) - 4294967296
-    }
+    i64::from(x.cast_signed())
 }
 
 pub fn before(a: u32, b: u32) -> bool

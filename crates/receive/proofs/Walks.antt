@@ -1,5 +1,6 @@
 -- The loop over a datagram's segments: what has been heard, and what remains, together are the whole.
 -- Assumes nothing.
+use Rattle.std.specs.Prelude.{Some, None}
 use mathlib.Core.Path.{◌≡◌, refl, sym, ap, ◌∙◌}
 use mathlib.Core.List.{List, []}
 use Prim.Native.Nat.{ℕ, ◌+◌, ◌-◌, ◌*◌, ◌≤◌, ◌<◌, ◌^◌}
@@ -8,11 +9,10 @@ use lib.ListN.{length, drop}
 use lib.Seq.{drop-drop}
 use Rattle.protocol.specs.Ranges.{mss}
 use Rattle.protocol.specs.declared.Settings.{Settings}
-use Rattle.wire.specs.declared.Header.{Header}
 use Rattle.datagram.specs.Datagrams.{Segment, parse, segments, step_at}
 use Rattle.datagram.specs.StepLaws.{Begun, Remaining, Took}
 use Rattle.datagram.proofs.StepLaws.{took, ended}
-use Rattle.datagram.specs.declared.Step.TheVariants as step
+use Rattle.datagram.specs.declared.Segment.{Segment as Place}
 use Rattle.session.specs.Input.{heard_by_receiving, all_by_receiving}
 use Rattle.receive.specs.Halves.{Half, receiver_of, segment_at, Sound, HalfIs, HearsAll}
 
@@ -51,22 +51,22 @@ module _ (c : Settings) (s : List ℕ) (h₀ : Half) (acks₀ pool₀ : List ℕ
 
   module _ (h : Half) (acks pool : List ℕ) (at : ℕ) (w : Walking h acks pool at) where
     -- the next segment
-    module _ (header : Header) (start next : ℕ) (e : step_at s at ≡ step.Segment header start next) where
-      first : Took c.conv (mss c) s at w.rest header start next
-      first = took c.conv (mss c) s at w.rest w.remaining header start next e
+    module _ (p : Place) (e : step_at s at ≡ Some p) where
+      first : Took c.conv (mss c) s at w.rest p.header p.start p.next
+      first = took c.conv (mss c) s at w.rest w.remaining p e
 
-      pub walking_inside : start + header.len ≤ length s
+      pub walking_inside : p.start + p.header.len ≤ length s
       walking_inside = omega (arith, first.starts, first.follows, first.inside)
 
-      pub walking_fits : header.cmd ≡ 81 → header.len ≤ mss c
+      pub walking_fits : p.header.cmd ≡ 81 → p.header.len ≤ mss c
       walking_fits = first.passed.payload
 
-      pub walking_less : length s - next < length s - at
+      pub walking_less : length s - p.next < length s - at
       walking_less = omega (arith, first.follows, first.inside)
 
       pub walking_more : (h' : Half) (acks' pool' : List ℕ)
-          → HalfIs (mss c) h h' acks acks' pool' (heard_by_receiving (mss c) (receiver_of h acks pool) (segment_at s start header))
-          → Walking h' acks' pool' next
+          → HalfIs (mss c) h h' acks acks' pool' (heard_by_receiving (mss c) (receiver_of h acks pool) (segment_at s p.start p.header))
+          → Walking h' acks' pool' p.next
       unfolding all_by_receiving
       walking_more h' acks' pool' d = record {
         all = w.all;
@@ -81,7 +81,7 @@ module _ (c : Settings) (s : List ℕ) (h₀ : Half) (acks₀ pool₀ : List ℕ
       }
 
     -- none is left
-    module _ (e : step_at s at ≡ step.End) where
+    module _ (e : step_at s at ≡ None) where
       none : w.rest ≡ []
       none = ended c.conv (mss c) s at w.rest w.remaining e
 

@@ -11,7 +11,6 @@ ghost use Rattle.receive.specs.Halves.{half_of, Sound, HearsAll};
 ghost use Rattle.receive.specs.Pushes.{Noted, Marked, Pushable, Heard};
 
 use control::Arrival;
-use datagram::Step;
 use keeping::{Pushed, in_window, keep};
 use protocol::{Protocol, Settings};
 use wire::Header;
@@ -100,26 +99,30 @@ pub fn hear(
     let mut a = arrival;
     let mut slot: usize = 0;
     let mut at: usize = 0;
-    loop {
-        let step = datagram::segment_at(s, at);
-        let Step::Segment {
-            header,
-            start,
-            next,
-        } = step
-        else {
-            return a;
-        };
-        at = next;
+    while let Some(segment) = datagram::segment_at(s, at) {
+        let header = segment.header;
+        at = segment.next;
         if header.cmd != Protocol::PUSH {
             a.tell = asked(a.tell, header.cmd);
             continue;
         }
         let mss = settings.mss();
         let after = push(
-            a, ready, waiting, numbers, marks, slot, mss, s, start, header, pool, acks,
+            a,
+            ready,
+            waiting,
+            numbers,
+            marks,
+            slot,
+            mss,
+            s,
+            segment.start,
+            header,
+            pool,
+            acks,
         );
         a = after.arrival;
         slot = after.slot;
     }
+    a
 }

@@ -1,12 +1,10 @@
 -- What a segment's header is as bytes. Definitions.
 -- Assumes nothing.
-use Rattle.std.specs.Prelude.{◌≡◌, Bool, cond, List, ◌++◌, ℕ, ◌+◌, ◌^◌, ◌<◌, leb, length}
+use Rattle.std.specs.Prelude.{◌≡◌, Bool, Option, None, Some, cond, List, ◌++◌, ℕ, ◌+◌, ◌^◌, ◌<◌, leb, length}
 use Rattle.std.proofs.lemmas.List.Edits.{sets}
 use Rattle.wire.specs.LittleEndian.{bytes_of, number_at}
 use Rattle.protocol.specs.Protocol.{header_size}
 use Rattle.wire.specs.declared.Header.{Header}
-use Rattle.wire.specs.declared.Found.{Found}
-use Rattle.wire.specs.declared.Found.TheVariants.{Whole, Short}
 
 -- a header's first 8 bytes: conversation 4 bytes, command 1, fragment 1, window 2
 unfoldable pub front : Header → List ℕ
@@ -35,8 +33,8 @@ decode s i =
     }
 
 -- what stands at index i of s
-unfoldable pub header_at : List ℕ → ℕ → Found
-header_at s i = cond (leb (i + header_size) (length s)) (Whole (decode s i)) Short
+unfoldable pub header_at : List ℕ → ℕ → Option Header
+header_at s i = cond (leb (i + header_size) (length s)) (Some (decode s i)) None
 
 -- each field fits its bytes
 pub record FieldsFit (h : Header) : Type 0 where

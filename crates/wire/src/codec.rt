@@ -3,7 +3,7 @@ ghost use Rattle.std.specs.Prelude.{◌≡◌, ◌+◌, ◌≤◌, length};
 ghost use Rattle.std.proofs.lemmas.List.Edits.{sets};
 ghost use Rattle.wire.specs.Headers.{front, back, encode, decode, Wrote, header_at};
 
-use crate::{Found, Header, number};
+use crate::{Header, number};
 use protocol::Protocol;
 
 // The header's first 8 bytes.
@@ -69,14 +69,14 @@ fn read_header(s: &[u8], at: usize) -> Header
 }
 
 // The header at `at`, where 24 bytes stand there.
-pub fn find_header(s: &[u8], at: usize) -> Found
+pub fn find_header(s: &[u8], at: usize) -> Option<Header>
     ensures { result ≡ header_at s.now at }
 {
     if s.len() < Protocol::HEADER {
-        return Found::Short;
+        return None;
     }
     if s.len() - Protocol::HEADER < at {
-        return Found::Short;
+        return None;
     }
-    Found::Whole(read_header(s, at))
+    Some(read_header(s, at))
 }

@@ -16,10 +16,3 @@ pub struct Header {
     pub una: u32,
     pub len: u32,
 }
-
-// What stands at a position of a slice: a whole header, or fewer bytes than one.
-#[derive(Clone, Copy)]
-pub enum Found {
-    Whole(Header),
-    Short,
-}

@@ -7,12 +7,12 @@ use Rattle.acknowledge.specs.Flights.{view}
 use Rattle.acknowledge.proofs.Walks.{Walking}
 use Rattle.acknowledge.proofs.hear.Given as goal
 
-abbrev pub invariant-loop-header : goal.invariant-loop-header
-invariant-loop-header l =
+abbrev pub invariant-loop-segment : goal.invariant-loop-segment
+invariant-loop-segment l =
     (length l.records ≡ 128)
     × Walking l.settings l.current l.s (view l.initial.f l.initial.outstanding l.initial.transmissions (records_in l.initial.records))
     (view l.f l.outstanding l.transmissions (records_in l.records)) l.furthest l.at
 
-abbrev pub decreases-loop-header : goal.decreases-loop-header
-decreases-loop-header l =
+abbrev pub decreases-loop-segment : goal.decreases-loop-segment
+decreases-loop-segment l =
     length l.s - l.at

@@ -33,8 +33,8 @@ judged c acks =
     start.args.sound fits.flight_fits-flown.result c.judged-verdict.result c.judged-verdict.ensures marked.1.1
     (record { whole = records_length 32 _ start.requires.1; fits = fits.flight_fits-flown.ensures })).verdict acks
 
-pub returns-in-Passed : goal.returns-in-Passed
-returns-in-Passed c =
+pub returns-in-Ok : goal.returns-in-Ok
+returns-in-Ok c =
     let schedules = c in
     let branch = schedules in
     let checks = branch in
@@ -45,13 +45,13 @@ returns-in-Passed c =
     link_of a.settings a.flight a.arrival a.clock
     (arrays a.queued.now a.outstanding.now a.transmissions.now a.ready.now a.waiting.now a.waiting_numbers.now)) start.requires.0
     (records_in a.records.now) a.acks.now _ _ _ sizes.enough-long.ensures (judged checks _)
-    a.t branch.in-Passed.is _
+    a.t branch.in-Ok.is _
     (c.check.ensures
     ∙ ap (λ (s : Schedule). named s a.t a.settings.interval
     (dues_of (take a.flight.outstanding (records_in a.records.now)))) schedules.schedule_of-schedule.ensures)
 
-pub returns-in-Refused : goal.returns-in-Refused
-returns-in-Refused c =
+pub returns-in-Err : goal.returns-in-Err
+returns-in-Err c =
     let checks = c in
     let sizes = checks in
     let start = sizes in
@@ -75,4 +75,4 @@ returns-in-Refused c =
     (records_in start.args.records.now) marked.0 marked.1.0 sizes.enough-long.result
     start.args.sound fits.flight_fits-flown.result checks.judged-verdict.result checks.judged-verdict.ensures marked.1.1
     (record { whole = records_length 32 _ start.requires.1; fits = fits.flight_fits-flown.ensures })).verdict acks in judged') _)
-    a.t _ c.in-Refused.is
+    a.t _ c.in-Err.is

@@ -2,8 +2,6 @@
 use mathlib.Core.Path.{◌≡◌}
 use Prim.Native.Nat.{◌-◌, ◌≤◌}
 use lib.ListN.{length, drop}
-use Rattle.protocol.specs.declared.Refusal.{Refusal}
-use Rattle.datagram.specs.declared.Checked.{Checked}
 use Rattle.datagram.specs.Datagrams.{walk, parse, counted}
 use Rattle.datagram.proofs.check.Given as goal
 

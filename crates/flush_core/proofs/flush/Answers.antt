@@ -11,7 +11,7 @@ use Rattle.flush_core.proofs.Checks.{flushable, ran, unflushed}
 use Rattle.flush_core.proofs.flush.Goals as goal
 
 -- what the checks say
-judged : (c : goal.After-run-arg-in-Passed-5-1) (acks : List ℕ)
+judged : (c : goal.After-run-arg-in-Ok-5-1) (acks : List ℕ)
     → let sizes = c in
     let start = sizes in
     c.judged-verdict.result ≡ verdict_of sizes.enough_to_flush-long.result
@@ -39,10 +39,10 @@ run-requires c =
     let start = sizes in
     let a = start.args in
     flushable _ _ _ _ _ _ a.table a.send_pool.now a.receive_pool.now a.acks.now a.output.now a.lengths.now _ _
-    sizes.enough_to_flush-long.ensures (judged checks _) passed.in-Passed.is start.requires.0 start.requires.1
+    sizes.enough_to_flush-long.ensures (judged checks _) passed.in-Ok.is start.requires.0 start.requires.1
 
-pub returns-in-Passed : goal.returns-in-Passed
-returns-in-Passed c =
+pub returns-in-Ok : goal.returns-in-Ok
+returns-in-Ok c =
     let runs = c in
     let passed = runs in
     let checks = passed in
@@ -67,14 +67,14 @@ returns-in-Passed c =
           (records_in start.args.records.now) marked.0 marked.1.0 sizes.enough_to_flush-long.result
           start.args.sound fits.flight_fits-flown.result checks.judged-verdict.result checks.judged-verdict.ensures marked.1.1
           (record { whole = records_length 32 _ start.requires.1; fits = fits.flight_fits-flown.ensures })).verdict acks in judged') _)
-          passed.in-Passed.is a.paced a.t
+          passed.in-Ok.is a.paced a.t
           runs.run.result _ _ _ _
           (runs.run.ensures.0 a.ready.now a.waiting.now a.waiting_numbers.now start.requires.0.whole_ready),
       runs.run.ensures.1,
     )
 
-pub returns-in-Refused : goal.returns-in-Refused
-returns-in-Refused c =
+pub returns-in-Err : goal.returns-in-Err
+returns-in-Err c =
     let answer = c in
     let checks = answer in
     let sizes = checks in
@@ -98,7 +98,7 @@ returns-in-Refused c =
           (records_in start.args.records.now) marked.0 marked.1.0 sizes.enough_to_flush-long.result
           start.args.sound fits.flight_fits-flown.result checks.judged-verdict.result checks.judged-verdict.ensures marked.1.1
           (record { whole = records_length 32 _ start.requires.1; fits = fits.flight_fits-flown.ensures })).verdict acks in judged') _) _
-          answer.in-Refused.is a.t _
+          answer.in-Err.is a.t _
           c.unflushed.ensures _ a.paced,
       start.requires.1,
     )

@@ -9,8 +9,8 @@ use Rattle.input_core.proofs.Checks.{admits, refuses, passes, hearable}
 use Rattle.input_core.proofs.Takes.{takes_nothing}
 use Rattle.input_core.proofs.input.Goals as goal
 
-pub returns-in-Refused : goal.returns-in-Refused
-returns-in-Refused c =
+pub returns-in-Err : goal.returns-in-Err
+returns-in-Err c =
     let branch = c in
     let checks = branch in
     let admit = checks in
@@ -34,7 +34,7 @@ returns-in-Refused c =
           (arrays a.queued.now a.outstanding.now a.transmissions.now a.ready.now a.waiting.now a.waiting_numbers.now)) _ _ _ _ s.args.sound
           _ _ admit.judged-verdict.ensures s.requires.2.1
           (record { whole = records_length 32 _ s.requires.1; fits = fits.flight_fits-flown.ensures }) in judged')
-          _ checks.mss-mss.ensures _ _ checks.checked_by-checked.ensures _ branch.in-Refused.is),
+          _ checks.mss-mss.ensures _ _ checks.checked_by-checked.ensures _ branch.in-Err.is),
       s.requires.1,
     )
 

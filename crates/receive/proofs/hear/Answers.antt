@@ -6,23 +6,23 @@ use Rattle.receive.proofs.Walks.{walking_inside, walking_fits, walking_less, wal
 use Rattle.receive.proofs.Pushed.{pushable, heard_asked}
 use Rattle.receive.proofs.hear.Goals as goal
 
-pub returns-in_default : goal.returns-in_default
-returns-in_default c =
-    let v = c.loop-header.invariant in
-    (v.0, walking_end _ _ _ _ _ _ _ _ _ v.1 (sym c.segment_at-step.ensures ∙ c.in_default.is))
+pub returns : goal.returns
+returns c =
+    let v = c.loop-segment.invariant in
+    (v.0, walking_end _ _ _ _ _ _ _ _ _ v.1 (sym c.segment_at.ensures ∙ c.in_default.is))
 
-pub loop-header-smaller-then-header-ne-PUSH : goal.loop-header-smaller-then-header-ne-PUSH
-loop-header-smaller-then-header-ne-PUSH c =
-    walking_less _ _ _ _ _ _ _ _ _ c.loop-header.invariant.1 _ _ _ (sym c.segment_at-step.ensures ∙ c.in-Segment.is)
+pub loop-segment-smaller-then-header-ne-PUSH : goal.loop-segment-smaller-then-header-ne-PUSH
+loop-segment-smaller-then-header-ne-PUSH c =
+    walking_less _ _ _ _ _ _ _ _ _ c.loop-segment.invariant.1 _ (sym c.segment_at.ensures ∙ c.in-Some.is)
 
-pub loop-header-preserved-then-header-ne-PUSH : goal.loop-header-preserved-then-header-ne-PUSH
-loop-header-preserved-then-header-ne-PUSH c =
-    let l = c.loop-header in
+pub loop-segment-preserved-then-header-ne-PUSH : goal.loop-segment-preserved-then-header-ne-PUSH
+loop-segment-preserved-then-header-ne-PUSH c =
+    let l = c.loop-segment in
     let v = l.invariant in
-    let g = c.in-Segment in (
+    let g = c.in-Some in (
       v.0,
-      walking_more _ _ _ _ _ _ _ _ _ v.1 _ _ _ (sym c.segment_at-step.ensures ∙ g.is) _ _ _
-          (heard_asked _ l.a l.ready l.waiting l.numbers _ _ c.args.s.now g.start g.header c.asked.result c.asked.ensures
+      walking_more _ _ _ _ _ _ _ _ _ v.1 _ (sym c.segment_at.ensures ∙ g.is) _ _ _
+          (heard_asked _ l.a l.ready l.waiting l.numbers _ _ c.args.s.now g.segment.start g.segment.header c.asked.result c.asked.ensures
           c.if-header-ne-PUSH.true v.1.sound v.1.low),
       record { whole = v.2.whole; free = v.2.free },
       v.3,
@@ -31,26 +31,26 @@ loop-header-preserved-then-header-ne-PUSH c =
 
 pub push-after-requires : goal.push-after-requires
 push-after-requires c =
-    let v = c.loop-header.invariant in
-    let found = sym c.segment_at-step.ensures ∙ c.in-Segment.is in (
+    let v = c.loop-segment.invariant in
+    let found = sym c.segment_at.ensures ∙ c.in-Some.is in (
       v.0,
-      pushable _ _ _ _ _ _ c.in-Segment.header _ _ _ c.mss-mss.ensures v.1.sound v.2
-          (walking_inside _ _ _ _ _ _ _ _ _ v.1 _ _ _ found)
-          (walking_fits _ _ _ _ _ _ _ _ _ v.1 _ _ _ found c.if-header-ne-PUSH.false),
+      pushable _ _ _ _ _ _ c.in-Some.segment.header _ _ _ c.mss-mss.ensures v.1.sound v.2
+          (walking_inside _ _ _ _ _ _ _ _ _ v.1 _ found)
+          (walking_fits _ _ _ _ _ _ _ _ _ v.1 _ found c.if-header-ne-PUSH.false),
     )
 
-pub loop-header-smaller : goal.loop-header-smaller
-loop-header-smaller c =
-    walking_less _ _ _ _ _ _ _ _ _ c.loop-header.invariant.1 _ _ _ (sym c.segment_at-step.ensures ∙ c.in-Segment.is)
+pub loop-segment-smaller : goal.loop-segment-smaller
+loop-segment-smaller c =
+    walking_less _ _ _ _ _ _ _ _ _ c.loop-segment.invariant.1 _ (sym c.segment_at.ensures ∙ c.in-Some.is)
 
-pub loop-header-preserved : goal.loop-header-preserved
-loop-header-preserved c =
-    let v = c.loop-header.invariant in
-    let g = c.in-Segment in
+pub loop-segment-preserved : goal.loop-segment-preserved
+loop-segment-preserved c =
+    let v = c.loop-segment.invariant in
+    let g = c.in-Some in
     let e = c.push-after.ensures in (
       e.0,
-      walking_more _ _ _ _ _ _ _ _ _ v.1 _ _ _ (sym c.segment_at-step.ensures ∙ g.is) _ _ _
-          (heard_push _ _ _ _ c.args.s.now g.start g.header _ _ _ c.if-header-ne-PUSH.false (rw c.mss-mss.ensures at e.1.is)),
+      walking_more _ _ _ _ _ _ _ _ _ v.1 _ (sym c.segment_at.ensures ∙ g.is) _ _ _
+          (heard_push _ _ _ _ c.args.s.now g.segment.start g.segment.header _ _ _ c.if-header-ne-PUSH.false (rw c.mss-mss.ensures at e.1.is)),
       e.1.marked,
       search rules,
       search rules,

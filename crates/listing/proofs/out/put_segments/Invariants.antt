@@ -11,13 +11,13 @@ use Rattle.listing.specs.Listings.{listed, segment_lines, body}
 use Rattle.listing.specs.ListingLaws.{Left}
 use Rattle.listing.proofs.out.put_segments.Given as goal
 
-abbrev pub invariant-loop-header : goal.invariant-loop-header
-invariant-loop-header l =
+abbrev pub invariant-loop-segment : goal.invariant-loop-segment
+invariant-loop-segment l =
     (length l.s ≤ 65536)
     × (24 * l.here ≤ 24 * l.at + 80 * l.from)
     × (length l.out ≡ length l.initial.out)
     × ((gs : List Segment) × Remaining (number_at 4 l.s 0) 488 l.s l.from gs × Left l.initial.out l.at (body (listed l.s)) l.out l.here
     (segment_lines gs ++ count_line l.n))
 
-abbrev pub decreases-loop-header : goal.decreases-loop-header
-decreases-loop-header l = length l.s - l.from
+abbrev pub decreases-loop-segment : goal.decreases-loop-segment
+decreases-loop-segment l = length l.s - l.from

@@ -1,5 +1,5 @@
 -- `wire::codec::find_header` meets its contract: the two tests say whether a whole header stands there.
-use mathlib.Core.Path.{◌≡◌}
+use Rattle.std.specs.Prelude.{◌≡◌, Some, None}
 use mathlib.Core.List.{List}
 use Prim.Native.Nat.{ℕ, ◌+◌, ◌≤◌, ◌<◌}
 use native.Mathlib.Omega.{arith}
@@ -7,14 +7,13 @@ use lib.ListN.{length}
 use borrow.Author.Tests.{le-leb, lt-leb}
 use Rattle.wire.specs.Headers.{decode, header_at}
 use Rattle.wire.specs.declared.Header.{Header}
-use Rattle.wire.specs.declared.Found.TheVariants.{Whole, Short}
 use Rattle.wire.proofs.codec.find_header.Goals as goal
 
-too_short : (s : List ℕ) (i : ℕ) → length s < i + 24 → Short ≡ header_at s i
+too_short : (s : List ℕ) (i : ℕ) → length s < i + 24 → None ≡ header_at s i
 unfolding header_at
 too_short s i short = rw (lt-leb _ _ short)
 
-whole : (s : List ℕ) (i : ℕ) (h : Header) → h ≡ decode s i → i + 24 ≤ length s → Whole h ≡ header_at s i
+whole : (s : List ℕ) (i : ℕ) (h : Header) → h ≡ decode s i → i + 24 ≤ length s → Some h ≡ header_at s i
 unfolding header_at
 whole s i h e enough = rw (le-leb _ _ enough, e)
 
