@@ -4,3 +4,12 @@
 
 pub mod put;
 pub mod read;
+
+ghost use Rattle.std.specs.Prelude.{◌≡◌, take};
+
+// The first `count` items of a list, or all of it.
+pub fn front<T>(list: &[T], count: usize) -> &[T]
+    ensures { result.now ≡ take count list.now }
+{
+    &list[..count.min(list.len())]
+}
