@@ -1,19 +1,16 @@
 -- Datagrams taken in by a link as its caller holds it, one after the other. A call is exactly what the public call promises. Definitions.
 -- Assumes nothing.
-use Rattle.std.specs.Prelude.{◌≡◌, List, [], ◌∷◌, map, ℕ}
+use Rattle.std.specs.Prelude.{◌≡◌, List, [], ◌∷◌, map, ℕ, Err, Ok}
 use Rattle.protocol.specs.Ranges.{mss}
 use Rattle.protocol.specs.declared.Settings.{Settings}
 use Rattle.datagram.specs.Datagrams.{Parsed, parse}
 use Rattle.lists.specs.declared.Sent.{Sent}
 use Rattle.lists.specs.declared.Acknowledges.{Acknowledges}
 use Rattle.control.specs.declared.Link.{Link}
-use Rattle.answers.specs.declared.Answer.{Answer}
-use Rattle.answers.specs.declared.Answer.TheVariants as answer
-use Rattle.answers.specs.declared.Count.{Count}
-use Rattle.answers.specs.declared.Update.{Update}
 use Rattle.promises.specs.Parts.{Parts, FlushParts, state_in}
 use Rattle.promises.specs.Promises.{SendPromise, InputPromise, FlushPromise, UpdatePromise, ReadPromise}
 use Rattle.any_order.specs.Numbers.{of_all, numbers_in}
+use Rattle.answers.specs.Answers.{Answer, Count, Update}
 
 -- ---- what was heard
 
@@ -24,9 +21,9 @@ pub record Heard : Type 0 where
 
 -- the una and ack numbers of a datagram that is accepted; a refused one has none
 abbrev pub numbers_parsed : Answer → Parsed → List Acknowledges
-numbers_parsed answer.Accepted (Parsed.segments gs) = numbers_in gs
-numbers_parsed answer.Accepted (Parsed.refused r) = []
-numbers_parsed (answer.Refused r) x = []
+numbers_parsed (Ok tt) (Parsed.segments gs) = numbers_in gs
+numbers_parsed (Ok tt) (Parsed.refused r) = []
+numbers_parsed (Err r) x = []
 
 abbrev pub numbers_one : Settings → Heard → List Acknowledges
 numbers_one c h = numbers_parsed h.answer (parse c.conv (mss c) h.datagram)

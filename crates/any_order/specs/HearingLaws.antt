@@ -1,7 +1,7 @@
 -- What datagrams do to a block's outstanding segments and to its snd_una is what their una and ack numbers do, taken one after the other:
 -- from the promises of the public calls alone.
 -- Assumes nothing.
-use Rattle.std.specs.Prelude.{◌≡◌, Bool, ℕ}
+use Rattle.std.specs.Prelude.{◌≡◌, Bool, ℕ, Err}
 use Rattle.std.proofs.Math.Path.{refl, sym, ap}
 use Rattle.std.proofs.Common.{◌∙◌}
 use Rattle.std.proofs.Math.Bool.{true, false}
@@ -17,8 +17,6 @@ use Rattle.session.specs.State.{State}
 use Rattle.session.specs.Input.{applied, taking, input}
 use Rattle.control.specs.Views.{state_of}
 use Rattle.control.specs.declared.Link.{Link}
-use Rattle.answers.specs.declared.Answer.{Answer}
-use Rattle.answers.specs.declared.Answer.TheVariants as answer
 use Rattle.promises.specs.Parts.{Parts, lengths_of, state_in, is_made, Unchanged}
 use Rattle.promises.specs.Outcomes.{checked, takes_in_with}
 use Rattle.promises.specs.Answers.{Accepts}
@@ -30,6 +28,7 @@ use Rattle.any_order.specs.NumberLaws.{Sees, first_seen, applied_takes}
 use Rattle.any_order.specs.Hearing.{Heard, numbers_parsed, numbers_one, numbers_heard, Between, Hears, start, hears, calls}
 use Rattle.any_order.specs.Hearing.{SameInFlight, outstanding_in}
 use Rattle.any_order.specs.OtherCallLaws.{Leaves}
+use Rattle.answers.specs.Answers.{Answer}
 
 module _ (see : Sent → Sent) (sees : Sees see) where
   abbrev in_flight : Link → Parts → InFlight
@@ -44,7 +43,7 @@ module _ (see : Sent → Sent) (sees : Sees see) where
 
   module _ (l : Link) (p : Parts) (l' : Link) (p' : Parts) where
     -- refused, a call leaves everything
-    refused_takes : (a : Answer) (r : Refusal) (x : Parsed) → a ≡ answer.Refused r → Unchanged l l' p p'
+    refused_takes : (a : Answer) (r : Refusal) (x : Parsed) → a ≡ Err r → Unchanged l l' p p'
         → Takes l p l' p' (numbers_parsed a x)
     unfolding takes
     refused_takes a r x e u = rw e (record { settings = ap (λ (y : Link). y.settings) u.link; numbers_taken = rw (u.link, u.parts) })

@@ -2,10 +2,10 @@
 -- Assumes nothing.
 use Rattle.std.specs.Prelude.{◌≡◌, ℕ}
 use Rattle.control.specs.declared.Link.{Link}
-use Rattle.answers.specs.declared.Time.{Time}
 use Rattle.promises.specs.Parts.{Parts}
 use Rattle.promises.specs.Promises.{CheckPromise}
 use Rattle.codes.specs.Codes.{time_stored}
+use Rattle.answers.specs.Answers.{Time}
 
 -- a check changes nothing but the number that it is lent, which becomes the time that it names; refused, that stays as it was
 pub record TimePromise (t : ℕ) (l : Link) (p : Parts) (a : Time) (was stored : ℕ) : Type 0 where

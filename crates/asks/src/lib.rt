@@ -24,8 +24,8 @@ pub fn size(
     ensures { Gives count_code (λ a. SizePromise link.now
         (parts_of send_pool.now receive_pool.now table.now acks.now) a) result }
 {
-    let mut send_marks = marks::none_to_send();
-    let mut receive_marks = marks::none();
+    let mut send_marks = [0; 128];
+    let mut receive_marks = [0; 256];
     let sound = block_check::sound(link, &mut send_marks, &mut receive_marks);
     let settings = link.settings;
     let flight = link.flight;
@@ -67,8 +67,8 @@ pub fn show(
     ensures { Gives place_code (λ a. PlacePromise link.now
         (parts_of send_pool.now receive_pool.now table.now acks.now) a start.new) result }
 {
-    let mut send_marks = marks::none_to_send();
-    let mut receive_marks = marks::none();
+    let mut send_marks = [0; 128];
+    let mut receive_marks = [0; 256];
     let sound = block_check::sound(link, &mut send_marks, &mut receive_marks);
     let settings = link.settings;
     let flight = link.flight;
@@ -111,15 +111,15 @@ pub fn check(
         (parts_of send_pool.now receive_pool.now table.now acks.now) a
         when.old when.new) result }
 {
-    let mut send_marks = marks::none_to_send();
-    let mut receive_marks = marks::none();
+    let mut send_marks = [0; 128];
+    let mut receive_marks = [0; 256];
     let sound = block_check::sound(link, &mut send_marks, &mut receive_marks);
     let settings = link.settings;
     let flight = link.flight;
     let arrival = link.arrival;
     let clock = link.clock;
     let n = results::outstanding_count(flight);
-    let mut records = record_words::none();
+    let mut records = records::none();
     gathering::gather(table, &link.outstanding, n, &mut records);
     let lent = records::table_len(table);
     let time = check_core::check(

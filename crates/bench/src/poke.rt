@@ -140,7 +140,7 @@ fn held(held: Held, field: u32, value: u32) -> Held
 fn word(word: u32, field: u32, value: u32) -> u32
     ensures { field < 3 → held_fields (unpack result) ≡ set (held_fields (unpack word)) field (stored_in 0 field value) }
 {
-    words::pack(held(words::unpacked(word), field, value))
+    held(Held::from(word), field, value).word()
 }
 
 // How many segments a list holds: 0 queued, 1 outstanding, 2 ready, 3 waiting.

@@ -1,14 +1,10 @@
 -- What each call over the bench promises: the call's own promise, of the parts as far as they are lent; all behind that stays. Definitions.
 -- b is the bench before the call, and s, r and a are send pool, receive pool and ack list.
 -- Assumes nothing.
-use Rattle.std.specs.Prelude.{◌≡◌, true, false, List, ℕ, take, drop}
+use Rattle.std.specs.Prelude.{◌≡◌, true, false, List, ℕ, take, drop, Err, Ok}
 use Rattle.protocol.specs.declared.Settings.{Settings}
 use Rattle.timing.specs.declared.Record.{Record}
 use Rattle.control.specs.declared.Link.{Link}
-use Rattle.answers.specs.declared.Answer.{Answer}
-use Rattle.answers.specs.declared.Answer.TheVariants.{Accepted, Refused}
-use Rattle.answers.specs.declared.Count.{Count}
-use Rattle.answers.specs.declared.Time.{Time}
 use Rattle.promises.specs.Parts.{Parts, parts_of, FlushParts, flush_parts_of}
 use Rattle.promises.specs.Outcomes.{shows}
 use Rattle.promises.specs.Promises.{OpenPromise, SendPromise, InputPromise, FlushPromise, ReadPromise, SizePromise, shown}
@@ -17,6 +13,7 @@ use Rattle.bench.specs.declared.Bench.{Bench}
 use Rattle.bench_calls.specs.declared.Answered.{Answered}
 use Rattle.bench_calls.specs.declared.Counted.{Counted}
 use Rattle.bench_calls.specs.declared.Updated.{Updated}
+use Rattle.answers.specs.Answers.{Answer, Count, Time}
 
 -- the parts, as far as the bench lends them, with a table of records
 abbrev pub lent_parts : Bench → List ℕ → List ℕ → List Record → List ℕ → Parts
@@ -33,8 +30,8 @@ after b l table = record { link = l; table = table; lent = b.lent; opened = b.op
 
 -- after an opening
 abbrev pub after_open : Bench → Answer → Link → Bench
-after_open b Accepted l = record { link = l; table = b.table; lent = b.lent; opened = true; fresh = true }
-after_open b (Refused r) l = after b l b.table
+after_open b (Ok tt) l = record { link = l; table = b.table; lent = b.lent; opened = true; fresh = true }
+after_open b (Err r) l = after b l b.table
 
 pub record BenchOpens (c : Settings) (b : Bench) (s r a : List ℕ) (x : Answered) : Type 0 where
   pub promise : OpenPromise c b.link (lent_parts b s r b.table a) x.answer x.bench.link (lent_parts b s r b.table a)

@@ -7,7 +7,7 @@ ghost use Rattle.bench_calls.specs.BenchPromises.{after, after_open, BenchOpens,
 ghost use Rattle.bench_calls.specs.BenchPromises.{BenchFlushes, BenchReads, BenchTells, BenchShows};
 ghost use Rattle.bench_calls.specs.BenchPromises.{BenchUpdates, BenchChecks};
 
-use answers::{Answer, Count, Time, Update};
+use answers::Answer;
 use bench::Bench;
 use protocol::Settings;
 use value_calls::{FlushedOut, TakenIn, UpdatedOut};
@@ -15,21 +15,21 @@ use value_calls::{FlushedOut, TakenIn, UpdatedOut};
 // The answer of opening, sending or taking in, and the bench after it.
 #[derive(Clone, Copy)]
 pub struct Answered {
-    pub answer: Answer,
+    pub answer: Answer<()>,
     pub bench: Bench,
 }
 
 // The answer of a flush or a read, and the bench after it.
 #[derive(Clone, Copy)]
 pub struct Counted {
-    pub answer: Count,
+    pub answer: Answer<usize>,
     pub bench: Bench,
 }
 
 // The answer of an update, and the bench after it.
 #[derive(Clone, Copy)]
 pub struct Updated {
-    pub answer: Update,
+    pub answer: Answer<Option<usize>>,
     pub bench: Bench,
 }
 
@@ -69,12 +69,12 @@ fn after_open(bench: Bench, done: value_calls::Answered) -> Answered
 {
     let answer = done.answer;
     match answer {
-        Answer::Accepted => Answered {
-            answer: Answer::Accepted,
+        Ok(()) => Answered {
+            answer: Ok(()),
             bench: bench.with_opened(done.link),
         },
-        Answer::Refused(r) => Answered {
-            answer: Answer::Refused(r),
+        Err(r) => Answered {
+            answer: Err(r),
             bench: bench.with_link(done.link),
         },
     }
@@ -308,7 +308,7 @@ pub fn read(
     after_read(bench, done)
 }
 
-pub fn size(bench: Bench, send_pool: &[u8], receive_pool: &[u8], acks: &[u32]) -> Count
+pub fn size(bench: Bench, send_pool: &[u8], receive_pool: &[u8], acks: &[u32]) -> Answer<usize>
     ensures { BenchTells bench send_pool.now receive_pool.now acks.now result }
 {
     let s = front(bench.lent.send, send_pool);
@@ -325,7 +325,7 @@ pub fn size(bench: Bench, send_pool: &[u8], receive_pool: &[u8], acks: &[u32]) -
     )
 }
 
-pub fn check(bench: Bench, send_pool: &[u8], receive_pool: &[u8], acks: &[u32], t: u32) -> Time
+pub fn check(bench: Bench, send_pool: &[u8], receive_pool: &[u8], acks: &[u32], t: u32) -> Answer<u32>
     ensures { BenchChecks t bench send_pool.now receive_pool.now acks.now result }
 {
     let s = front(bench.lent.send, send_pool);

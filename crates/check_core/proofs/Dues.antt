@@ -1,7 +1,7 @@
 -- The due times of a block's outstanding segments are those of the first records; what a check names.
 -- Assumes nothing.
 use mathlib.Core.Path.{◌≡◌, refl, sym, ap, ◌∙◌}
-use mathlib.Core.Bool.{Bool, true}
+use mathlib.Core.Bool.{Bool}
 use mathlib.Core.List.{List, [], ◌∷◌, map}
 use Prim.Native.Nat.{ℕ, ◌≤◌}
 use native.Mathlib.Omega.{arith}
@@ -18,18 +18,17 @@ use Rattle.lists.specs.declared.Sent.{Sent}
 use Rattle.schedule.specs.Schedules.{dues_of, named}
 use Rattle.session.specs.Decides.{and_parts}
 use Rattle.session.specs.Updating.{dues, checking}
-use Rattle.answers.specs.declared.Time.TheVariants as time
 use Rattle.words.specs.Words.{outstanding_at, outstanding_in}
 use Rattle.words.proofs.Pairs.{paired_length}
 use Rattle.control.specs.declared.Link.{Link}
 use Rattle.control.specs.Views.{Whole, arrays_of, schedule_of, state_of, counts_fit, block_valid}
 use Rattle.control.specs.ViewLaws.{counts}
-use Rattle.checking.specs.declared.Verdict.{Verdict}
-use Rattle.checking.specs.declared.Verdict.TheVariants.{Passed, Refused}
 use Rattle.checking.specs.Verdicts.{verdict_of}
 use Rattle.checking.specs.VerdictLaws.{refused_by_lem, passed_by}
 use Rattle.promises.specs.Answers.{time_outcome}
 use Rattle.promises.specs.Outcomes.{checks_with}
+use Rattle.answers.specs.Answers.{Answer}
+use Rattle.std.specs.Prelude.{Err, Ok}
 
 joined_dues : (l : List Outstanding) (rs : List Record) → map (λ (x : Sent). x.record.due) (joined l rs) ≡ dues_of (take (length l) rs)
 unfolding joined
@@ -48,12 +47,12 @@ module _ (l : Link) (whole : Whole (arrays_of l)) (records : List Record) (acks 
       (length-take-le n l.transmissions (omega (arith, whole.whole_transmissions))) in
       joined_dues (outstanding_in l.outstanding l.transmissions n) records ∙ ap (λ (k : ℕ). dues_of (take k records)) many
 
-  module _ (n : Lengths) (long : Bool) (v : Verdict) (e : long ≡ enough (mss l.settings) n)
+  module _ (n : Lengths) (long : Bool) (v : Answer) (e : long ≡ enough (mss l.settings) n)
       (d : v ≡ verdict_of long (block_valid l records acks)) (t : ℕ) where
     -- both checks passed
-    pub names : v ≡ Passed → (when : ℕ)
+    pub names : v ≡ Ok tt → (when : ℕ)
         → when ≡ named (schedule_of l.clock) t l.settings.interval (dues_of (take l.flight.outstanding records))
-        → time_outcome (time.At when) ≡ checks_with l records acks n t
+        → time_outcome (Ok when) ≡ checks_with l records acks n t
     unfolding checks_with checking block_valid counts_fit state_of
     names p when w =
         let passes = passed_by long (block_valid l records acks) v d p in
@@ -61,6 +60,6 @@ module _ (l : Link) (whole : Whole (arrays_of l)) (records : List Record) (acks 
         rw (← e, passes.long_enough_lem, passes.valid_block, block_dues few) (rw w)
 
     -- one failed
-    pub refuses : (q : Refusal) → v ≡ Refused q → time_outcome (time.Refused q) ≡ checks_with l records acks n t
+    pub refuses : (q : Refusal) → v ≡ Err q → time_outcome (Err q) ≡ checks_with l records acks n t
     unfolding checks_with
     refuses q p = sym (rw (← e) (refused_by_lem _ long (block_valid l records acks) v q d p))

@@ -4,11 +4,11 @@
 use mathlib.Core.Path.{◌≡◌, refl, sym, ap, ◌∙◌}
 use mathlib.Core.Bool.{Bool, true, false, not, ◌&&◌}
 use mathlib.Core.List.{List, [], ◌∷◌}
-use Prim.Native.Nat.{ℕ, zero, suc, ◌+◌, ◌-◌, ◌*◌, ◌^◌, ◌≤◌, ◌<◌}
+use Prim.Native.Nat.{ℕ, suc, ◌+◌, ◌-◌, ◌*◌, ◌^◌, ◌≤◌, ◌<◌}
 use native.Mathlib.Omega.{arith}
 use borrow.Author.Tests.{lt-ltb, ltb-true, le-leb, leb-true, ne_eqb}
 use lib.Dec.{leb, ltb, eqb}
-use lib.ListN.{length, take, get_or, length-take}
+use lib.ListN.{length, get_or}
 use Rattle.protocol.specs.Serial.{minus}
 use Rattle.lists.specs.Orders.{ascending, waiting_offset}
 use Rattle.lists.specs.Receiving.{starts_at}
@@ -105,22 +105,20 @@ module _ (base : ℕ) (fits : base < 2 ^ 32) where
   begins [] = false
   begins (x ∷ l) = eqb (off x) 0
 
-  last_at : (x : ℕ) (l : List ℕ) (k : ℕ) → k ≤ length l → get_or (x ∷ l) k 0 ≡ last x (take k l)
-  last_at x l zero h = refl
-  last_at x [] (suc k) h = absurd (omega arith)
-  last_at x (y ∷ l) (suc k) h = last_at y l k (omega arith)
+  last_at : (x : ℕ) (l : List ℕ) → get_or (x ∷ l) (length l) 0 ≡ last x l
+  last_at x [] = refl
+  last_at x (y ∷ l) = last_at y l
 
-  pub ahead_ascending : (ready : ℕ) (numbers : List ℕ) (n : ℕ) → n ≤ 128 → n ≤ length numbers
-      → ahead_fits base ready numbers n ≡ (ascending off 0 128 (take n numbers) && not (begins (take n numbers) && ltb ready 128))
+  pub ahead_ascending : (ready : ℕ) (numbers : List ℕ) → length numbers ≤ 128
+      → ahead_fits base ready numbers ≡ (ascending off 0 128 numbers && not (begins numbers && ltb ready 128))
   unfolding ascending
-  ahead_ascending ready numbers zero h g = refl
-  ahead_ascending ready [] (suc k) h g = absurd (omega arith)
-  ahead_ascending ready (x ∷ l) (suc k) h g =
-      let q : suc k - 1 ≡ k = omega arith in
-      let z : eqb (suc k) 0 ≡ false = ne_eqb (suc k) 0 (λ e. omega arith) in
-      rw (z, q, last_at x l k (omega arith)) (swap (ltb (off x) 128 && ltb (off (last x (take k l))) 128)
-      (not (eqb (off x) 0 && ltb ready 128)) (neighbours (x ∷ take k l)) ∙ ap (λ (b : Bool). b && not (eqb (off x) 0 && ltb ready 128))
-      (ends_ascending x (take k l) (omega (arith, length-take k l))))
+  ahead_ascending ready [] h = refl
+  ahead_ascending ready (x ∷ l) h =
+      let q : suc (length l) - 1 ≡ length l = omega arith in
+      let z : eqb (suc (length l)) 0 ≡ false = ne_eqb (suc (length l)) 0 (λ e. omega arith) in
+      rw (z, q, last_at x l) (swap (ltb (off x) 128 && ltb (off (last x l)) 128)
+      (not (eqb (off x) 0 && ltb ready 128)) (neighbours (x ∷ l)) ∙ ap (λ (b : Bool). b && not (eqb (off x) 0 && ltb ready 128))
+      (ends_ascending x l (omega arith)))
     where
       swap : (a b c : Bool) → (a && b && c) ≡ (a && c && b)
       swap true true true = refl

@@ -83,7 +83,7 @@ module _ (f : Flight) (queued outstanding transmissions : List ℕ) (rs : List R
       (joined_held os rs room ∙ paired_words outstanding_at outstanding_part unpack (λ w n. refl) (take f.outstanding outstanding)
       (take f.outstanding transmissions) even)
 
-  pub send_slots_lem : slots (send_held sends) ≡ send_slots_in queued f.queued outstanding f.outstanding
+  pub send_slots_lem : slots (send_held sends) ≡ send_slots_in (take f.queued queued) (take f.outstanding outstanding)
   send_slots_lem = ap slots held_parts ∙ slots_append (held_in outstanding f.outstanding) (held_in queued f.queued)
 
   module _ (c : Settings) where
@@ -100,7 +100,7 @@ module _ (f : Flight) (queued outstanding transmissions : List ℕ) (rs : List R
     b₂ = all_below send_slots (slots_of (held_in queued f.queued))
 
     abbrev o : Bool
-    o = once (send_slots_in queued f.queued outstanding f.outstanding)
+    o = once (send_slots_in (take f.queued queued) (take f.outstanding outstanding))
 
     held_all : all (held_fits (mss c)) (send_held sends) ≡ (h₁ && h₂)
     held_all = ap (all (held_fits (mss c))) held_parts ∙ all_append (held_fits (mss c)) (held_in outstanding f.outstanding)
@@ -113,7 +113,7 @@ module _ (f : Flight) (queued outstanding transmissions : List ℕ) (rs : List R
         ∙ ap (λ (b : Bool). b && o) (below_append send_slots (slots_of (held_in outstanding f.outstanding))
         (slots_of (held_in queued f.queued)))
 
-    pub sending_checked : (sending_fits (mss c) queued f.queued outstanding transmissions f.outstanding
+    pub sending_checked : (sending_fits (mss c) (take f.queued queued) (take f.outstanding outstanding) (take f.outstanding transmissions)
         && flight_fits c.mode f.una f.next (take f.outstanding rs) && round_trip_fits c.mode f.rtt)
         ≡ sending_valid c sends
     unfolding sending_valid numbers_fit
@@ -183,7 +183,7 @@ module _ (a : Arrival) (ready waiting numbers : List ℕ) (long : a.ready ≤ le
   got_parts = ap (λ (l : List Held). held_in ready a.ready ++ l)
       (paired_words waiting_at waiting_part unpack (λ w n. refl) (take a.waiting waiting) (take a.waiting numbers) level)
 
-  pub receive_slots_lem : slots (receive_held takes) ≡ receive_slots_in ready a.ready waiting a.waiting
+  pub receive_slots_lem : slots (receive_held takes) ≡ receive_slots_in (take a.ready ready) (take a.waiting waiting)
   receive_slots_lem = ap slots got_parts ∙ slots_append (held_in ready a.ready) (held_in waiting a.waiting)
 
   module _ (c : Settings) (few : a.ready ≤ 128) (most : a.waiting ≤ 128) (noted : length acks ≤ 256) (fits : a.expected < 2 ^ 32) where
@@ -194,7 +194,7 @@ module _ (a : Arrival) (ready waiting numbers : List ℕ) (long : a.ready ≤ le
     g₂ = all (held_fits (mss c)) (held_in waiting a.waiting)
 
     abbrev u : Bool
-    u = once (receive_slots_in ready a.ready waiting a.waiting)
+    u = once (receive_slots_in (take a.ready ready) (take a.waiting waiting))
 
     got_all : all (held_fits (mss c)) (receive_held takes) ≡ (g₁ && g₂)
     got_all = ap (all (held_fits (mss c))) got_parts ∙ all_append (held_fits (mss c)) (held_in ready a.ready) (held_in waiting a.waiting)
@@ -205,7 +205,7 @@ module _ (a : Arrival) (ready waiting numbers : List ℕ) (long : a.ready ≤ le
         ∙ ap (λ (l : List ℕ). all_below receive_slots l && once l) receive_slots_lem
         ∙ ap (λ (b : Bool). b && u) (both_low (take a.ready ready) (take a.waiting waiting))
 
-    pub receiving_checked : receiving_fits (mss c) a.expected ready a.ready waiting numbers a.waiting ≡ receiving_valid c takes
+    pub receiving_checked : receiving_fits (mss c) a.expected (take a.ready ready) (take a.waiting waiting) (take a.waiting numbers) ≡ receiving_valid c takes
     unfolding receiving_valid waiting_fits settled
     receiving_checked =
         let count : length (held_in ready a.ready) ≡ a.ready =
@@ -218,7 +218,8 @@ module _ (a : Arrival) (ready waiting numbers : List ℕ) (long : a.ready ≤ le
           count,
           le-leb a.ready 128 few,
           le-leb (length acks) 256 noted,
-          ahead_ascending a.expected fits a.ready numbers a.waiting most side,
+          length-take-le a.ready ready long,
+          ahead_ascending a.expected fits a.ready (take a.waiting numbers) (omega (arith, length-take-le a.waiting numbers side)),
           paired_ascending a.expected 0 128 (take a.waiting waiting) (take a.waiting numbers) level,
           paired_starts a.expected fits (take a.waiting waiting) (take a.waiting numbers) level,
         )

@@ -67,7 +67,7 @@ paired_few (w ∷ ws) (t ∷ ts) e = rw (paired_few ws ts (omega arith)) refl
 
 -- ---- marks of one list after the other
 
-words_low : (ws : List ℕ) → all_below 256 (slots_of (map unpack ws)) ≡ true
+pub words_low : (ws : List ℕ) → all_below 256 (slots_of (map unpack ws)) ≡ true
 unfolding all_below
 words_low [] = refl
 words_low (w ∷ ws) = let q : w % 256 < 256 = omega arith in rw (lt-ltb (w % 256) 256 q) (words_low ws)

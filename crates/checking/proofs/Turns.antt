@@ -3,13 +3,14 @@
 use mathlib.Core.Path.{◌≡◌, refl, sym, ap, ◌∙◌}
 use mathlib.Core.Bool.{Bool, true, false, not, ◌&&◌, ◌||◌, and-true, and-false, and_assoc, false≢true}
 use mathlib.Core.List.{List, ◌∷◌}
-use Prim.Native.Nat.{ℕ, ◌+◌, ◌-◌, ◌%◌, ◌^◌, ◌≤◌, ◌<◌, min}
+use Prim.Native.Nat.{ℕ, suc, ◌+◌, ◌-◌, ◌%◌, ◌^◌, ◌≤◌, ◌<◌, min}
 use native.Mathlib.Decide.{dec_lt}
 use native.Mathlib.Omega.{arith}
+use native.Mathlib.Numerals.{add-one}
 use borrow.Author.Tests.{lt-ltb, le-ltb, le-leb, lt-leb}
 use lib.Dec.{leb, ltb, eqb}
-use lib.ListN.{length, take, drop, get_or, length-replicate}
-use lib.Seq.{take_all}
+use lib.ListN.{length, take, drop, get_or, length-replicate, drop_of_length-le}
+use lib.Seq.{take_all, drop-cons}
 use Rattle.protocol.specs.Serial.{minus}
 use Rattle.timing.specs.declared.Record.{Record}
 use Rattle.lists.proofs.Loops.{view_next, view_end}
@@ -40,38 +41,37 @@ pub not-false : (b : Bool) → not b ≡ false → b ≡ true
 not-false true e = refl
 not-false false e = sym e
 
--- a test of each word; fit so far
-module _ (test : ℕ → Bool) (ws : List ℕ) (n i : ℕ) (goal fit : Bool) (inv : goal ≡ (fit && all test (drop i (take n ws)))) where
-  pub all_next : (t : Bool) → i < n → n ≤ length ws → t ≡ test (get_or ws i 0) → goal ≡ (fit && t && all test (drop (i + 1) (take n ws)))
-  all_next t h g e = inv ∙ rw (view_next ws n i 0 h g, ← e) (sym (and_assoc fit t _))
+-- a test of each; fit so far
+module _ {A : Type 0} (test : A → Bool) (l : List A) (i : ℕ) (goal fit : Bool) (inv : goal ≡ (fit && all test (drop i l))) where
+  pub all_next : (d : A) (t : Bool) → i < length l → t ≡ test (get_or l i d) → goal ≡ (fit && t && all test (drop (i + 1) l))
+  all_next d t h e = inv ∙ rw (drop-cons l i d h, ← e, add-one) (sym (and_assoc fit t _))
 
-  pub all_end : n ≤ i → goal ≡ fit
-  all_end h = inv ∙ rw (view_end ws n i h) (and-true fit)
+  pub all_end : length l ≤ i → goal ≡ fit
+  all_end h = inv ∙ rw (drop_of_length-le l {i = i} h) (and-true fit)
 
 -- neighbours, the one at i and the one before it
-module _ (ws : List ℕ) (n i : ℕ) (goal fit : Bool) (low : 1 ≤ i) (g : n ≤ length ws)
-    (inv : goal ≡ (fit && neighbours (drop (i - 1) (take n ws)))) where
-  near_front : i - 1 < n → drop (i - 1) (take n ws) ≡ get_or ws (i - 1) 0 ∷ drop i (take n ws)
-  near_front h = let q : i - 1 + 1 ≡ i = omega arith in rw q at (view_next ws n (i - 1) 0 h g)
+module _ (ws : List ℕ) (i : ℕ) (goal fit : Bool) (low : 1 ≤ i) (inv : goal ≡ (fit && neighbours (drop (i - 1) ws))) where
+  near_front : i - 1 < length ws → drop (i - 1) ws ≡ get_or ws (i - 1) 0 ∷ drop i ws
+  near_front h = let q : suc (i - 1) ≡ i = omega arith in rw q at (drop-cons ws (i - 1) 0 h)
 
-  pub near_next : (t : Bool) → i < n → t ≡ follows (get_or ws (i - 1) 0) (get_or ws i 0)
-      → goal ≡ (fit && t && neighbours (drop (i + 1 - 1) (take n ws)))
+  pub near_next : (t : Bool) → i < length ws → t ≡ follows (get_or ws (i - 1) 0) (get_or ws i 0)
+      → goal ≡ (fit && t && neighbours (drop (i + 1 - 1) ws))
   unfolding neighbours
   near_next t h e =
       let q : i + 1 - 1 ≡ i = omega arith in
       inv ∙ ap (λ (l : List ℕ). fit && neighbours l) (near_front (omega arith)) ∙ ap (λ (b : Bool). fit && b) step ∙ rw q
       (sym (and_assoc fit t _))
     where
-      step : neighbours (get_or ws (i - 1) 0 ∷ drop i (take n ws)) ≡ (t && neighbours (drop i (take n ws)))
-      step = rw (view_next ws n i 0 h g, ← e) refl
+      step : neighbours (get_or ws (i - 1) 0 ∷ drop i ws) ≡ (t && neighbours (drop i ws))
+      step = rw (drop-cons ws i 0 h, ← e) refl
 
-  pub near_end : n ≤ i → goal ≡ fit
+  pub near_end : length ws ≤ i → goal ≡ fit
   unfolding neighbours
-  near_end h = go (dec_lt (i - 1) n)
+  near_end h = go (dec_lt (i - 1) (length ws))
     where
-      go : Dec (i - 1 < n) → goal ≡ fit
-      go (yes s) = inv ∙ rw (near_front s, view_end ws n i h) (and-true fit)
-      go (no s) = let q : n ≤ i - 1 = omega arith in inv ∙ rw (view_end ws n (i - 1) q) (and-true fit)
+      go : Dec (i - 1 < length ws) → goal ≡ fit
+      go (yes s) = inv ∙ rw (near_front s, drop_of_length-le ws {i = i} h) (and-true fit)
+      go (no s) = let q : length ws ≤ i - 1 = omega arith in inv ∙ rw (drop_of_length-le ws {i = i - 1} q) (and-true fit)
 
 -- the test of two neighbours, d after the first, e one less
 pub follows_test : (a b d e : ℕ) → a < 2 ^ 32 → d ≡ minus b a → e ≡ minus d 1 → ltb e 127 ≡ follows a b
@@ -143,10 +143,10 @@ limits_parts true true z e = (refl, refl)
 limits_parts true false z e = absurd (false≢true (sym e))
 limits_parts false y z e = absurd (false≢true (sym e))
 
-module _ (mss : ℕ) (queued : List ℕ) (n : ℕ) (outstanding transmissions : List ℕ) (m : ℕ) (x y z : Bool) (marks : List ℕ)
-    (ex : x ≡ all (send_word_fits mss) (take n queued)) (ey : y ≡ all (send_word_fits mss) (take m outstanding))
-    (ez : z ≡ all sent_few (take m transmissions)) where
-  pub limits_fail : marks ≡ none_to_send → not (x && y && z) ≡ true → SendingFits mss queued n outstanding transmissions m marks false
+module _ (mss : ℕ) (queued outstanding transmissions : List ℕ) (x y z : Bool) (marks : List ℕ)
+    (ex : x ≡ all (send_word_fits mss) queued) (ey : y ≡ all (send_word_fits mss) outstanding)
+    (ez : z ≡ all sent_few transmissions) where
+  pub limits_fail : marks ≡ none_to_send → not (x && y && z) ≡ true → SendingFits mss queued outstanding transmissions marks false
   limits_fail e t =
       record {
         whole = none_whole 128 marks e;
@@ -154,17 +154,17 @@ module _ (mss : ℕ) (queued : List ℕ) (n : ℕ) (outstanding transmissions : 
         marked = λ z. absurd (false≢true z);
       }
 
-  pub limits_fit : (r : Bool) → not (x && y && z) ≡ false → r ≡ once (send_slots_in queued n outstanding m) → length marks ≡ 128
-      → marks ≡ marked_all none_to_send (send_slots_in queued n outstanding m)
-      → SendingFits mss queued n outstanding transmissions m marks r
+  pub limits_fit : (r : Bool) → not (x && y && z) ≡ false → r ≡ once (send_slots_in queued outstanding) → length marks ≡ 128
+      → marks ≡ marked_all none_to_send (send_slots_in queued outstanding)
+      → SendingFits mss queued outstanding transmissions marks r
   limits_fit r t er w e = record { whole = w; fits = rw (← ex, ← ey, ← ez, not-false (x && y && z) t) er; marked = λ z. e }
 
-module _ (mss expected : ℕ) (ready : List ℕ) (n : ℕ) (waiting numbers : List ℕ) (m : ℕ) (marks : List ℕ) (x : Bool) (w : length marks ≡ 256)
-    (e : marks ≡ marked_all none (receive_slots_in ready n waiting m)) (ex : x ≡ once (receive_slots_in ready n waiting m)) where
-  pub slots_fail : not x ≡ true → ReceivingFits mss expected ready n waiting numbers m marks false
+module _ (mss expected : ℕ) (ready waiting numbers : List ℕ) (marks : List ℕ) (x : Bool) (w : length marks ≡ 256)
+    (e : marks ≡ marked_all none (receive_slots_in ready waiting)) (ex : x ≡ once (receive_slots_in ready waiting)) where
+  pub slots_fail : not x ≡ true → ReceivingFits mss expected ready waiting numbers marks false
   slots_fail t = record { whole = w; fits = sym (rw (← ex, not-true x t) refl); marked = λ z. e }
 
   pub slots_fit_lem : (r : Bool) → not x ≡ false
-      → r ≡ (all (word_fits mss) (take n ready) && all (word_fits mss) (take m waiting) && ahead_fits expected n numbers m)
-      → ReceivingFits mss expected ready n waiting numbers m marks r
+      → r ≡ (all (word_fits mss) ready && all (word_fits mss) waiting && ahead_fits expected (length ready) numbers)
+      → ReceivingFits mss expected ready waiting numbers marks r
   slots_fit_lem r t er = record { whole = w; fits = rw (← ex, not-false x t) er; marked = λ z. e }

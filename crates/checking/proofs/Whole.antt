@@ -70,20 +70,20 @@ module _ (s : Settings) (f : Flight) (a : Arrival) (k : Clock) (x : Arrays) (rs 
   link = link_of s f a k x
 
   abbrev sends : Bool
-  sends = sending_fits (mss s) x.queued f.queued x.outstanding x.transmissions f.outstanding
+  sends = sending_fits (mss s) (take f.queued x.queued) (take f.outstanding x.outstanding) (take f.outstanding x.transmissions)
 
   abbrev flies : Bool
   flies = flight_fits s.mode f.una f.next (take f.outstanding rs)
 
   abbrev receives : Bool
-  receives = receiving_fits (mss s) a.expected x.ready a.ready x.waiting x.numbers a.waiting
+  receives = receiving_fits (mss s) a.expected (take a.ready x.ready) (take a.waiting x.waiting) (take a.waiting x.numbers)
 
   -- the slots held
   abbrev send_holds : List ℕ
-  send_holds = send_slots_in x.queued f.queued x.outstanding f.outstanding
+  send_holds = send_slots_in (take f.queued x.queued) (take f.outstanding x.outstanding)
 
   abbrev receive_holds : List ℕ
-  receive_holds = receive_slots_in x.ready a.ready x.waiting a.waiting
+  receive_holds = receive_slots_in (take a.ready x.ready) (take a.waiting x.waiting)
 
   module _ (acks : List ℕ) (e : counted f a ≡ true) where
     n : Counts f a
@@ -155,7 +155,7 @@ module _ (s : Settings) (f : Flight) (a : Arrival) (k : Clock) (x : Arrays) (rs 
 
   -- the sending half does not fit
   pub unsent : (p : ℕ) (send receive : List ℕ) (z : Bool) → true ≡ numbers_fit s f a k → p ≡ mss s → not z ≡ true
-      → SendingFits p x.queued f.queued x.outstanding x.transmissions f.outstanding send z → length receive ≡ 256
+      → SendingFits p (take f.queued x.queued) (take f.outstanding x.outstanding) (take f.outstanding x.transmissions) send z → length receive ≡ 256
       → Checked link rs send receive false
   unsent p send receive z e ep ez h er =
       let g = numbers_of s f a k e in
@@ -169,7 +169,7 @@ module _ (s : Settings) (f : Flight) (a : Arrival) (k : Clock) (x : Arrays) (rs 
 
   -- its slots are below 128 where it does
   sends_low : (p : ℕ) (send : List ℕ) (z : Bool) → not z ≡ false
-      → SendingFits p x.queued f.queued x.outstanding x.transmissions f.outstanding send z → all_below 128 send_holds ≡ true
+      → SendingFits p (take f.queued x.queued) (take f.outstanding x.outstanding) (take f.outstanding x.transmissions) send z → all_below 128 send_holds ≡ true
   sends_low p send z ez h =
       let fit = (and_parts _ _ (sym h.fits ∙ not-false z ez)).0 in
       let both = and_parts _ _ (and_parts _ _ fit).0 in
@@ -177,8 +177,8 @@ module _ (s : Settings) (f : Flight) (a : Arrival) (k : Clock) (x : Arrays) (rs 
 
   -- it does, and the receiving half and the records decide
   pub sent_fits_lem : (p : ℕ) (send receive : List ℕ) (z y flown : Bool) → true ≡ numbers_fit s f a k → p ≡ mss s → not z ≡ false
-      → SendingFits p x.queued f.queued x.outstanding x.transmissions f.outstanding send z → flown ≡ flies
-      → ReceivingFits p a.expected x.ready a.ready x.waiting x.numbers a.waiting receive y
+      → SendingFits p (take f.queued x.queued) (take f.outstanding x.outstanding) (take f.outstanding x.transmissions) send z → flown ≡ flies
+      → ReceivingFits p a.expected (take a.ready x.ready) (take a.waiting x.waiting) (take a.waiting x.numbers) receive y
       → Checked link rs send receive (y && flown)
   sent_fits_lem p send receive z y flown e ep ez h₁ h₂ h₃ =
       let g = numbers_of s f a k e in

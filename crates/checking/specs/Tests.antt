@@ -1,6 +1,6 @@
 -- What the check of a control block asks of its words, numbers and records, as the code takes it. Definitions.
 -- Assumes nothing.
-use Rattle.std.specs.Prelude.{◌≡◌, Bool, true, cond, not, ◌&&◌, ◌||◌, List, [], ◌∷◌, ◌++◌, ℕ, ◌+◌, ◌-◌, ◌%◌, ◌^◌, leb, ltb, eqb, length, take, get_or}
+use Rattle.std.specs.Prelude.{◌≡◌, Bool, true, cond, not, ◌&&◌, ◌||◌, List, [], ◌∷◌, ◌++◌, ℕ, ◌+◌, ◌-◌, ◌%◌, ◌^◌, leb, ltb, eqb, length, get_or, map}
 use Rattle.protocol.specs.Protocol.{send_slots, send_window, receive_window, dead_after, skips_most}
 use Rattle.protocol.specs.Ranges.{in_range, mss}
 use Rattle.protocol.specs.Serial.{minus}
@@ -9,7 +9,7 @@ use Rattle.congestion.specs.Congestions.{fits}
 use Rattle.timing.specs.declared.Record.{Record}
 use Rattle.slots.specs.Slots.{slots_of, once}
 use Rattle.session.specs.Valid.{all, held_fits, timeout_fits, round_trip_fits, probe_fits}
-use Rattle.words.specs.Words.{unpack, held_in}
+use Rattle.words.specs.Words.{unpack}
 use Rattle.marks.specs.Marks.{none, none_to_send, marked_all}
 use Rattle.control.specs.declared.Flight.{Flight}
 use Rattle.control.specs.declared.Arrival.{Arrival}
@@ -47,10 +47,10 @@ ends_fit first last expected ready =
     ltb (minus first expected) receive_window && ltb (minus last expected) receive_window
     && not (eqb (minus first expected) 0 && ltb ready receive_window)
 
--- the first n numbers of an array
-abbrev pub ahead_fits : ℕ → ℕ → List ℕ → ℕ → Bool
-ahead_fits expected ready numbers n =
-    cond (eqb n 0) true (ends_fit (get_or numbers 0 0) (get_or numbers (n - 1) 0) expected ready && neighbours (take n numbers))
+abbrev pub ahead_fits : ℕ → ℕ → List ℕ → Bool
+ahead_fits expected ready numbers =
+    cond (eqb (length numbers) 0) true
+    (ends_fit (get_or numbers 0 0) (get_or numbers (length numbers - 1) 0) expected ready && neighbours numbers)
 
 -- ---- what is no list
 
@@ -95,22 +95,21 @@ flown_by una next least = ltb least (2 ^ 32) && leb (minus next una) send_window
 
 -- ---- the segments of a half, and the marks left
 
-abbrev pub send_slots_in : List ℕ → ℕ → List ℕ → ℕ → List ℕ
-send_slots_in queued n outstanding m = slots_of (held_in outstanding m) ++ slots_of (held_in queued n)
+abbrev pub send_slots_in : List ℕ → List ℕ → List ℕ
+send_slots_in queued outstanding = slots_of (map unpack outstanding) ++ slots_of (map unpack queued)
 
-abbrev pub sending_fits : ℕ → List ℕ → ℕ → List ℕ → List ℕ → ℕ → Bool
-sending_fits mss queued n outstanding transmissions m =
-    all (send_word_fits mss) (take n queued) && all (send_word_fits mss) (take m outstanding) && all sent_few (take m transmissions)
-    && once (send_slots_in queued n outstanding m)
+abbrev pub sending_fits : ℕ → List ℕ → List ℕ → List ℕ → Bool
+sending_fits mss queued outstanding transmissions =
+    all (send_word_fits mss) queued && all (send_word_fits mss) outstanding && all sent_few transmissions
+    && once (send_slots_in queued outstanding)
 
-pub record SendingFits (mss : ℕ) (queued : List ℕ) (n : ℕ) (outstanding transmissions : List ℕ) (m : ℕ) (marks : List ℕ) (r : Bool) : Type 0
-  where
-    pub whole : length marks ≡ 128
-    pub fits : r ≡ sending_fits mss queued n outstanding transmissions m
-    pub marked : r ≡ true → marks ≡ marked_all none_to_send (send_slots_in queued n outstanding m)
+pub record SendingFits (mss : ℕ) (queued outstanding transmissions : List ℕ) (marks : List ℕ) (r : Bool) : Type 0 where
+  pub whole : length marks ≡ 128
+  pub fits : r ≡ sending_fits mss queued outstanding transmissions
+  pub marked : r ≡ true → marks ≡ marked_all none_to_send (send_slots_in queued outstanding)
 
-abbrev pub receive_slots_in : List ℕ → ℕ → List ℕ → ℕ → List ℕ
-receive_slots_in ready n waiting m = slots_of (held_in ready n) ++ slots_of (held_in waiting m)
+abbrev pub receive_slots_in : List ℕ → List ℕ → List ℕ
+receive_slots_in ready waiting = slots_of (map unpack ready) ++ slots_of (map unpack waiting)
 
 -- the slots of words are `from` and those after it, in order
 unfoldable pub in_line : ℕ → List ℕ → Bool
@@ -118,18 +117,17 @@ in_line from [] = true
 in_line from (w ∷ l) = eqb (w % 256) from && in_line (from + 1) l
 
 -- the slots of both lists are marked; r tells whether none is held twice
-pub record HeldOnce (ready : List ℕ) (n : ℕ) (waiting : List ℕ) (m : ℕ) (marks : List ℕ) (r : Bool) : Type 0 where
+pub record HeldOnce (ready waiting : List ℕ) (marks : List ℕ) (r : Bool) : Type 0 where
   pub whole : length marks ≡ 256
-  pub marked : marks ≡ marked_all none (receive_slots_in ready n waiting m)
-  pub held : r ≡ once (receive_slots_in ready n waiting m)
+  pub marked : marks ≡ marked_all none (receive_slots_in ready waiting)
+  pub held : r ≡ once (receive_slots_in ready waiting)
 
-abbrev pub receiving_fits : ℕ → ℕ → List ℕ → ℕ → List ℕ → List ℕ → ℕ → Bool
-receiving_fits mss expected ready n waiting numbers m =
-    once (receive_slots_in ready n waiting m)
-    && (all (word_fits mss) (take n ready) && all (word_fits mss) (take m waiting) && ahead_fits expected n numbers m)
+abbrev pub receiving_fits : ℕ → ℕ → List ℕ → List ℕ → List ℕ → Bool
+receiving_fits mss expected ready waiting numbers =
+    once (receive_slots_in ready waiting)
+    && (all (word_fits mss) ready && all (word_fits mss) waiting && ahead_fits expected (length ready) numbers)
 
-pub record ReceivingFits (mss expected : ℕ) (ready : List ℕ) (n : ℕ) (waiting numbers : List ℕ) (m : ℕ) (marks : List ℕ) (r : Bool) : Type 0
-  where
-    pub whole : length marks ≡ 256
-    pub fits : r ≡ receiving_fits mss expected ready n waiting numbers m
-    pub marked : r ≡ true → marks ≡ marked_all none (receive_slots_in ready n waiting m)
+pub record ReceivingFits (mss expected : ℕ) (ready waiting numbers : List ℕ) (marks : List ℕ) (r : Bool) : Type 0 where
+  pub whole : length marks ≡ 256
+  pub fits : r ≡ receiving_fits mss expected ready waiting numbers
+  pub marked : r ≡ true → marks ≡ marked_all none (receive_slots_in ready waiting)

@@ -1,6 +1,6 @@
 -- What the checks of a call say: refusal 7, then 13, or the marks of the slots held. Definitions.
 -- Assumes nothing.
-use Rattle.std.specs.Prelude.{◌≡◌, Bool, true, cond, ◌&&◌, List, ℕ, length, take}
+use Rattle.std.specs.Prelude.{◌≡◌, Bool, true, cond, ◌&&◌, List, ℕ, length, take, Err, Ok}
 use Rattle.protocol.specs.declared.Refusal.TheVariants.{ShortPart, InvalidBlock}
 use Rattle.timing.specs.declared.Record.{Record}
 use Rattle.session.specs.State.{send_held, receive_held, slots}
@@ -8,8 +8,7 @@ use Rattle.marks.specs.Marks.{Free}
 use Rattle.control.specs.declared.Link.{Link}
 use Rattle.control.specs.Views.{state_of, block_valid}
 use Rattle.checking.specs.Tests.{flight_fits}
-use Rattle.checking.specs.declared.Verdict.{Verdict}
-use Rattle.checking.specs.declared.Verdict.TheVariants.{Passed, Refused}
+use Rattle.answers.specs.Answers.{Answer}
 
 -- 13 is given exactly where the block is not valid; else the marks tell the free slots of both pools
 pub record Checked (l : Link) (records : List Record) (send receive : List ℕ) (r : Bool) : Type 0 where
@@ -33,13 +32,13 @@ abbrev pub Flies : Link → Bool → Type 0
 Flies l flown = (records : List Record) × Flown l records flown
 
 -- the lent sizes, then the block
-abbrev pub verdict_of : Bool → Bool → Verdict
-verdict_of long made = cond long (cond made Passed (Refused InvalidBlock)) (Refused ShortPart)
+abbrev pub verdict_of : Bool → Bool → Answer
+verdict_of long made = cond long (cond made (Ok tt) (Err InvalidBlock)) (Err ShortPart)
 
 -- the verdict of both, and what is known of a block that passed
-pub record Admitted (long : Bool) (l : Link) (records : List Record) (send receive : List ℕ) (v : Verdict) : Type 0 where
+pub record Admitted (long : Bool) (l : Link) (records : List Record) (send receive : List ℕ) (v : Answer) : Type 0 where
   pub verdict : (acks : List ℕ) → v ≡ verdict_of long (block_valid l records acks)
-  pub checked : v ≡ Passed → Checked l records send receive true
+  pub checked : v ≡ Ok tt → Checked l records send receive true
 
 -- ---- a block that is sound: all but the records of its outstanding segments is as 13 asks
 

@@ -1,5 +1,5 @@
 // The numbers of waiting segments.
-ghost use Rattle.std.specs.Prelude.{◌≡◌, ◌≤◌, length, take};
+ghost use Rattle.std.specs.Prelude.{◌≡◌};
 ghost use Rattle.checking.specs.Tests.{follows, neighbours, ends_fit, ahead_fits};
 
 use protocol::serial;
@@ -11,16 +11,13 @@ fn follows(first: u32, second: u32) -> bool
     serial::difference(serial::difference(second, first), 1) < 127
 }
 
-// Each of n numbers is 1 to 127 after the one before.
-fn ascend(numbers: &[u32; 128], n: usize) -> bool
-    requires { (length numbers.now ≡ 128) × (n ≤ 128) }
-    ensures { result ≡ neighbours (take n numbers.now) }
+// Each number is 1 to 127 after the one before.
+fn ascend(numbers: &[u32]) -> bool
+    ensures { result ≡ neighbours numbers.now }
 {
     let mut fit = true;
-    let mut i: usize = 1;
-    while i < n {
+    for i in 1..numbers.len() {
         fit = fit & follows(numbers[i - 1], numbers[i]);
-        i += 1;
     }
     fit
 }
@@ -36,12 +33,11 @@ fn ends_fit(first: u32, last: u32, expected: u32, ready: usize) -> bool
 }
 
 // Waiting numbers ascend from `expected`, less than 128 after it, and not from it on while fewer than 128 are ready.
-pub fn ahead_fits(numbers: &[u32; 128], n: usize, expected: u32, ready: usize) -> bool
-    requires { (length numbers.now ≡ 128) × (n ≤ 128) }
-    ensures { result ≡ ahead_fits expected ready numbers.now n }
+pub fn ahead_fits(numbers: &[u32], expected: u32, ready: usize) -> bool
+    ensures { result ≡ ahead_fits expected ready numbers.now }
 {
-    if n == 0 {
+    if numbers.is_empty() {
         return true;
     }
-    ends_fit(numbers[0], numbers[n - 1], expected, ready) & ascend(numbers, n)
+    ends_fit(numbers[0], numbers[numbers.len() - 1], expected, ready) & ascend(numbers)
 }

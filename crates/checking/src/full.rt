@@ -1,6 +1,6 @@
 // The slots of the receiving half, marked. Where every slot of the pool is held in list order none is held twice and none is free: then
 // no segment is looked at on its own.
-ghost use Rattle.std.specs.Prelude.{◌≡◌, ◌≤◌, ◌%◌, eqb, length, take};
+ghost use Rattle.std.specs.Prelude.{◌≡◌, ◌+◌, ◌≤◌, ◌%◌, eqb, length};
 ghost use Rattle.marks.specs.Marks.{none};
 ghost use Rattle.checking.specs.Tests.{in_line, HeldOnce};
 
@@ -11,40 +11,29 @@ fn is_at(word: u32, slot: u32) -> bool
     word % 256 == slot
 }
 
-// Whether the slots of 128 words are `from` and those after it, in order.
-fn in_line(words: &[u32; 128], from: u32) -> bool
-    requires { (length words.now ≡ 128) × (from ≤ 128) }
-    ensures { result ≡ in_line from (take 128 words.now) }
+// Whether the slots of words are `from` and those after it, in order.
+fn in_line(words: &[u32], from: u32) -> bool
+    requires { from + length words.now ≤ 256 }
+    ensures { result ≡ in_line from words.now }
 {
     let mut fit = true;
-    let mut slot = from;
-    let mut i: usize = 0;
-    while i < 128 {
-        fit = fit & is_at(words[i], slot);
-        slot += 1;
-        i += 1;
+    for (i, word) in words.iter().enumerate() {
+        fit = fit & is_at(*word, from + i as u32);
     }
     fit
 }
 
-// The slots of n ready and m waiting segments are marked. Whether none is held twice.
-pub fn mark_held(
-    ready: &[u32; 128],
-    n: usize,
-    waiting: &[u32; 128],
-    m: usize,
-    marks: &mut [u8; 256],
-) -> bool
-    requires { (length ready.now ≡ 128) × (n ≤ 128) × (length waiting.now ≡ 128) × (m ≤ 128) × (marks.old ≡ none) }
-    ensures { HeldOnce ready.now n waiting.now m marks.new result }
+// The slots of ready and waiting segments are marked. Whether none is held twice.
+pub fn mark_held(ready: &[u32], waiting: &[u32], marks: &mut [u8; 256]) -> bool
+    requires { (length ready.now ≤ 128) × (length waiting.now ≤ 128) × (marks.old ≡ none) }
+    ensures { HeldOnce ready.now waiting.now marks.new result }
 {
-    if n + m == 256 {
-        if in_line(ready, 0) & in_line(waiting, 128) {
-            *marks = [1; 256];
-            return true;
-        }
+    let full = ready.len() + waiting.len() == 256;
+    if full && in_line(ready, 0) & in_line(waiting, 128) {
+        *marks = [1; 256];
+        return true;
     }
-    let first = marks::mark(marks, ready, n);
-    let second = marks::mark(marks, waiting, m);
+    let first = marks::mark(marks, ready);
+    let second = marks::mark(marks, waiting);
     first & second
 }

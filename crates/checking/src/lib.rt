@@ -14,79 +14,63 @@ ghost use Rattle.control.specs.Views.{arrays, link_of, Whole};
 ghost use Rattle.checking.specs.Tests.{SendingFits, ReceivingFits};
 ghost use Rattle.checking.specs.Verdicts.{Sound, verdict_of};
 
+use answers::Answer;
 use control::{Arrival, Clock, Flight};
 use protocol::{Refusal, Settings};
 
-// What the checks of 7 and 13 say.
-#[derive(Clone, Copy)]
-pub enum Verdict {
-    Passed,
-    Refused(Refusal),
-}
-
 // 7, then 13.
-pub fn judged(long: bool, made: bool) -> Verdict
+pub fn judged(long: bool, made: bool) -> Answer<()>
     ensures { result ≡ verdict_of long made }
 {
     if !long {
-        return Verdict::Refused(Refusal::ShortPart);
+        return Err(Refusal::ShortPart);
     }
-    if made {
-        Verdict::Passed
-    } else {
-        Verdict::Refused(Refusal::InvalidBlock)
+    if !made {
+        return Err(Refusal::InvalidBlock);
     }
+    Ok(())
 }
 
 // The segments of the sending half; their slots are marked.
 fn sending_fits(
-    queued: &[u32; 128],
-    n: usize,
-    outstanding: &[u32; 32],
-    transmissions: &[u8; 32],
-    m: usize,
+    queued: &[u32],
+    outstanding: &[u32],
+    transmissions: &[u8],
     mss: u16,
     marks: &mut [u8; 128],
 ) -> bool
-    requires { (length queued.now ≡ 128) × (n ≤ 128) × (length outstanding.now ≡ 32) × (length transmissions.now ≡ 32) × (m ≤ 32)
-        × (marks.old ≡ none_to_send) }
-    ensures { SendingFits mss queued.now n outstanding.now transmissions.now m
-        marks.new result }
+    requires { marks.old ≡ none_to_send }
+    ensures { SendingFits mss queued.now outstanding.now transmissions.now marks.new result }
 {
-    let fit = limits::queued_fit(queued, n, mss)
-        & limits::outstanding_fit(outstanding, m, mss)
-        & limits::transmissions_fit(transmissions, m);
+    let fit = limits::every(queued, |word| limits::send_word_fits(word, mss))
+        & limits::every(outstanding, |word| limits::send_word_fits(word, mss))
+        & limits::every(transmissions, limits::sent_few);
     if !fit {
         return false;
     }
-    let first = marks::mark_outstanding(marks, outstanding, m);
-    let second = marks::mark_queued(marks, queued, n);
+    let first = marks::mark(marks, outstanding);
+    let second = marks::mark(marks, queued);
     first & second
 }
 
 // The segments of the receiving half; their slots are marked.
 fn receiving_fits(
-    ready: &[u32; 128],
-    n: usize,
-    waiting: &[u32; 128],
-    waiting_numbers: &[u32; 128],
-    m: usize,
+    ready: &[u32],
+    waiting: &[u32],
+    numbers: &[u32],
     expected: u32,
     mss: u16,
     marks: &mut [u8; 256],
 ) -> bool
-    requires { (length ready.now ≡ 128) × (n ≤ 128) × (length waiting.now ≡ 128) × (length waiting_numbers.now ≡ 128) × (m ≤ 128)
-        × (marks.old ≡ none) }
-    ensures { ReceivingFits mss expected ready.now n waiting.now waiting_numbers.now m
-        marks.new result }
+    requires { (length ready.now ≤ 128) × (length waiting.now ≤ 128) × (marks.old ≡ none) }
+    ensures { ReceivingFits mss expected ready.now waiting.now numbers.now marks.new result }
 {
-    let once = full::mark_held(ready, n, waiting, m, marks);
-    if !once {
+    if !full::mark_held(ready, waiting, marks) {
         return false;
     }
-    limits::held_fit(ready, n, mss)
-        & limits::held_fit(waiting, m, mss)
-        & ahead::ahead_fits(waiting_numbers, m, expected, n)
+    limits::every(ready, |word| limits::word_fits(word, mss))
+        & limits::every(waiting, |word| limits::word_fits(word, mss))
+        & ahead::ahead_fits(numbers, expected, ready.len())
 }
 
 // Whether a block is one that this link makes, but for the records of its outstanding segments. The slots held are marked. The lists are
@@ -116,24 +100,22 @@ pub fn sound(
     }
     let most = settings.mss();
     let mss = most as u16;
+    let m = flight.outstanding;
     let sends = sending_fits(
-        queued,
-        flight.queued,
-        outstanding,
-        transmissions,
-        flight.outstanding,
+        &queued[..flight.queued],
+        &outstanding[..m],
+        &transmissions[..m],
         mss,
         send_marks,
     );
     if !sends {
         return false;
     }
+    let w = arrival.waiting;
     receiving_fits(
-        ready,
-        arrival.ready,
-        waiting,
-        waiting_numbers,
-        arrival.waiting,
+        &ready[..arrival.ready],
+        &waiting[..w],
+        &waiting_numbers[..w],
         arrival.expected,
         mss,
         receive_marks,

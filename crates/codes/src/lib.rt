@@ -5,7 +5,7 @@ ghost use Rattle.std.specs.Prelude.{◌≡◌, min};
 ghost use Rattle.codes.specs.Codes.{number_code, refusal_code, answer_code, size_code, count_code};
 ghost use Rattle.codes.specs.Codes.{update_code, time_code, time_stored, settings_of};
 
-use answers::{Answer, Count, Time, Update};
+use answers::Answer;
 use protocol::{Protocol, Refusal, Settings};
 
 // A count is told up to this one.
@@ -29,12 +29,12 @@ fn refusal_code(refusal: Refusal) -> i32
 }
 
 // 0, or the refusal.
-pub fn answer_code(answer: Answer) -> i32
+pub fn answer_code(answer: Answer<()>) -> i32
     ensures { result ≡ answer_code answer }
 {
     match answer {
-        Answer::Accepted => 0,
-        Answer::Refused(refusal) => refusal_code(refusal),
+        Ok(()) => 0,
+        Err(refusal) => refusal_code(refusal),
     }
 }
 
@@ -50,36 +50,36 @@ pub fn size_code(n: usize) -> i32
 }
 
 // The count, or the refusal.
-pub fn count_code(count: Count) -> i32
+pub fn count_code(count: Answer<usize>) -> i32
     ensures { result ≡ count_code count }
 {
     match count {
-        Count::Of(n) => size_code(n),
-        Count::Refused(refusal) => refusal_code(refusal),
+        Ok(n) => size_code(n),
+        Err(refusal) => refusal_code(refusal),
     }
 }
 
 // The count of an update's datagrams, the number of one that did not flush, or the refusal.
-pub fn update_code(update: Update) -> i32
+pub fn update_code(update: Answer<Option<usize>>) -> i32
     ensures { result ≡ update_code update }
 {
     match update {
-        Update::Waited => NOT_YET,
-        Update::Wrote(n) => size_code(n),
-        Update::Refused(refusal) => refusal_code(refusal),
+        Ok(None) => NOT_YET,
+        Ok(Some(n)) => size_code(n),
+        Err(refusal) => refusal_code(refusal),
     }
 }
 
 // A check's time is stored, and 0 returned, or the refusal.
-pub fn tell_time(time: Time, when: &mut u32) -> i32
+pub fn tell_time(time: Answer<u32>, when: &mut u32) -> i32
     ensures { (result ≡ time_code time) × (when.new ≡ time_stored time when.old) }
 {
     match time {
-        Time::At(t) => {
+        Ok(t) => {
             *when = t;
             0
         }
-        Time::Refused(refusal) => refusal_code(refusal),
+        Err(refusal) => refusal_code(refusal),
     }
 }
 

@@ -2,7 +2,7 @@
 -- counts nothing, or the refusal's number below zero; it is below zero exactly where the call is refused. The codes tell no number above
 -- 2^31 - 1, nor a start above 2^32 - 1; no call comes near (crate `demands`, CountLaws).
 -- Assumes nothing.
-use Rattle.std.specs.Prelude.{◌≡◌, refl, Bool, true, false, List, ℕ, ◌≤◌, ℤ, pos, length}
+use Rattle.std.specs.Prelude.{◌≡◌, refl, Bool, true, false, List, ℕ, ◌≤◌, ℤ, pos, length, Err, Ok}
 use Rattle.std.proofs.Common.{ap, ◌∙◌, subst, arith, le-ltb}
 use Rattle.std.specs.Int.Signed.{lt_z}
 use Rattle.protocol.specs.Protocol.{lengths_least}
@@ -13,9 +13,6 @@ use Rattle.session.specs.State.{Outcome, refused, done}
 use Rattle.session.specs.Flushing.{Flushed}
 use Rattle.session.specs.Reading.{Reads, Part}
 use Rattle.control.specs.declared.Link.{Link}
-use Rattle.answers.specs.declared.Answer.{Answer}
-use Rattle.answers.specs.declared.Count.{Count}
-use Rattle.answers.specs.declared.Count.TheVariants as count
 use Rattle.promises.specs.Parts.{Parts, FlushParts}
 use Rattle.promises.specs.Outcomes.{opens, sends, takes_in, flushes, reads, tells, shows}
 use Rattle.promises.specs.Answers.{Accepts, Counts, count_outcome}
@@ -28,6 +25,7 @@ use Rattle.results.specs.PlaceCodes.{place_code}
 use Rattle.demands.specs.CountLaws.{OfResult, MessageFits, PlaceFits}
 use Rattle.demands.proofs.CountLaws.{flushes_few, reads_fit, tells_fit, shows_fit}
 use Rattle.asks.specs.Places.{PlacePromise}
+use Rattle.answers.specs.Answers.{Answer, Count}
 
 -- the very count of the result, or the refusal's number below zero
 abbrev pub Told : {A : Type 0} → (A → ℕ) → Outcome A → ℤ → Type 0
@@ -74,8 +72,8 @@ place_small c (done x) h = (omega (arith, h.count, h.payload), omega (arith, h.w
 
 -- a count answers itself
 counts_itself : (a : Count) → Counts (λ (n : ℕ). n) a (count_outcome a)
-counts_itself (count.Of n) = refl
-counts_itself (count.Refused x) = refl
+counts_itself (Ok n) = refl
+counts_itself (Err x) = refl
 
 -- ---- below zero exactly where the call is refused
 

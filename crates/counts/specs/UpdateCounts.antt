@@ -1,7 +1,7 @@
 -- What C gets of an update and of a check, whatever block and parts they are given: the count of an update's datagrams as it is, one number
 -- alone where it does not flush, which is no count's and no refusal's, and the time that a check names.
 -- Assumes nothing.
-use Rattle.std.specs.Prelude.{◌≡◌, refl, true, ℕ, ℤ, pos, length}
+use Rattle.std.specs.Prelude.{◌≡◌, refl, true, ℕ, ℤ, pos, length, Err, Ok}
 use Rattle.std.proofs.Common.{sym, ap, ◌∙◌, subst, arith, le-ltb}
 use Rattle.std.proofs.lemmas.Bool.{false≢true}
 use Rattle.std.specs.Int.Signed.{lt_z}
@@ -10,9 +10,6 @@ use Rattle.protocol.specs.declared.Refusal.TheVariants as refusal
 use Rattle.session.specs.State.{Outcome, refused, done}
 use Rattle.session.specs.Updating.{Updates, waits, flushes}
 use Rattle.control.specs.declared.Link.{Link}
-use Rattle.answers.specs.declared.Update.{Update}
-use Rattle.answers.specs.declared.Time.{Time}
-use Rattle.answers.specs.declared.Time.TheVariants.{At, Refused}
 use Rattle.promises.specs.Parts.{Parts, FlushParts}
 use Rattle.promises.specs.Outcomes.{updates, checks}
 use Rattle.promises.specs.Answers.{update_answer, time_outcome}
@@ -22,6 +19,7 @@ use Rattle.codes.specs.Gives.{Gives}
 use Rattle.demands.specs.CountLaws.{OfResult, FewDatagrams}
 use Rattle.demands.proofs.CountLaws.{updates_few}
 use Rattle.asks.specs.Times.{TimePromise}
+use Rattle.answers.specs.Answers.{Update, Time}
 
 -- the refusal's number below zero, the number of an update that does not flush, or the very count of its datagrams
 abbrev pub UpdateTold : Outcome Updates → ℤ → Type 0
@@ -79,5 +77,5 @@ module _ (l : Link) (p : Parts) (r : ℤ) where
       (rw (g.number, g.promise.when) (go g.answer))
     where
       go : (a : Time) → TimeTold (time_outcome a) was (time_code a) (time_stored a was)
-      go (At when) = (refl, refl)
-      go (Refused x) = (refl, refl)
+      go (Ok when) = (refl, refl)
+      go (Err x) = (refl, refl)

@@ -1,7 +1,7 @@
 -- Validity: after an accepted opening no list of calls ever gives 13, nor 7 for a lent part (7 is left for a read whose buffer is shorter
 -- than the message), and the block that they leave is one that 13 does not refuse. From the promises of the public calls alone.
 -- Assumes nothing.
-use Rattle.std.specs.Prelude.{◌≡◌, true, List, ◌^◌, ◌<◌}
+use Rattle.std.specs.Prelude.{◌≡◌, true, List, ◌^◌, ◌<◌, Ok}
 use Rattle.std.proofs.Common.{sym, ◌∙◌}
 use Rattle.protocol.specs.Ranges.{in_range, mss}
 use Rattle.protocol.specs.declared.Settings.{Settings}
@@ -10,7 +10,6 @@ use Rattle.session.specs.Reading.{message_size, telling}
 use Rattle.session.specs.Calls.{Call, Reply, Event, own}
 use Rattle.session.specs.Decides.{All}
 use Rattle.promises.specs.Parts.{lengths_of, state_in, is_made}
-use Rattle.answers.specs.declared.Count.TheVariants as count
 use Rattle.promises.specs.Outcomes.{tells_with, tells}
 use Rattle.promises.specs.AnswerLaws.{count_number_lem}
 use Rattle.delivery.specs.Hearing.{CallFits}
@@ -33,7 +32,7 @@ module _ (c : Settings) (range : in_range c ≡ true) (conv : c.conv < 2 ^ 32) w
   short_buffer e k (Call.read room) h =
       let answer = sym (tells_size e (is_long c range conv e k) (is_made_lem c range conv e k) ∙ h.0) in
       let size = message_size (state_in e.link e.parts).receiving in
-      (size, record { answer = answer; number = count_number_lem (count.Of size) (tells e.link e.parts) answer }, h.1)
+      (size, record { answer = answer; number = count_number_lem (Ok size) (tells e.link e.parts) answer }, h.1)
   short_buffer e k (Call.send m) h = h
   short_buffer e k (Call.take_in d) h = h
   short_buffer e k (Call.flush t) h = h

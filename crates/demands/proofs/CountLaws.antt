@@ -3,7 +3,7 @@
 -- It holds of every block and all lent parts: a count is given only of a block that passed 13.
 -- Assumes nothing.
 use Rattle.std.proofs.Math.Path.{◌≡◌, refl}
-use Rattle.std.proofs.Common.{sym, ◌∙◌, subst, zero-le}
+use Rattle.std.proofs.Common.{sym, ◌∙◌, subst, zero-le, Err, Ok, Some}
 use Rattle.std.specs.Prelude.{Bool, List, [], ◌∷◌, ℕ, zero, suc, ◌*◌, ◌≤◌, ◌<◌, leb, take}
 use Rattle.std.proofs.Math.Bool.{true, false, cond}
 use Rattle.std.proofs.Math.Nat.{mul-le-mul_right}
@@ -29,9 +29,6 @@ use Rattle.words.specs.Words.{unpack, held_in}
 use Rattle.control.specs.declared.Link.{Link}
 use Rattle.control.specs.Views.{arrays_of, Whole, state_of, counts_fit, block_valid}
 use Rattle.control.specs.ViewLaws.{counts}
-use Rattle.answers.specs.declared.Count.{Count}
-use Rattle.answers.specs.declared.Count.TheVariants as count
-use Rattle.answers.specs.declared.Update.TheVariants as update
 use Rattle.promises.specs.Parts.{Parts, FlushParts, lengths_of, state_in, is_made}
 use Rattle.promises.specs.Outcomes.{checked, flushes_with, updates_with, reads_with, tells_with, shows_with, flushes, updates, reads, tells, shows}
 use Rattle.promises.specs.Answers.{Counts, count_outcome, update_answer}
@@ -40,6 +37,7 @@ use Rattle.delivery.specs.FlushLaws.{flush_few}
 use Rattle.delivery.specs.CallCases.{valid_rescheduled, updating_cases}
 use Rattle.demands.specs.OutputLaws.{message_short}
 use Rattle.demands.specs.CountLaws.{OfResult, MessageFits, PlaceFits, FewDatagrams}
+use Rattle.answers.specs.Answers.{Count}
 
 -- a result is given only of a block that passed 13
 made_result : {A : Type 0} (P : A → Type 0) (long made : Bool) (own : Outcome A) → (made ≡ true → OfResult P own)
@@ -132,7 +130,7 @@ showing_fits s v = go (readable s.receiving.ready)
     go false = tt
 
 -- so many are answered
-few_answered : (n : ℕ) (o : Outcome Updates) → update.Wrote n ≡ update_answer o → OfResult FewDatagrams o → n ≤ lengths_least
+few_answered : (n : ℕ) (o : Outcome Updates) → Ok (Some n) ≡ update_answer o → OfResult FewDatagrams o → n ≤ lengths_least
 few_answered n (refused r) e h = absurd (let z : ◌≡◌ {A = ℕ} 0 1 = cc in omega arith)
 few_answered n (done (Updates.waits s)) e h = absurd (let z : ◌≡◌ {A = ℕ} 0 1 = cc in omega arith)
 few_answered n (done (Updates.flushes x)) e h = let same : n ≡ length x.datagrams = cc in omega arith
@@ -178,27 +176,27 @@ count_given P size a (done x) e h = rw e h
 module _ {l : Link} {p : Parts} {n : ℕ} where
   -- a flush that answers n wrote at most 290 datagrams
   pub flush_counts : {t : ℕ} {f : FlushParts} {l' : Link} {p' : Parts} {f' : FlushParts}
-      → FlushPromise t l p f (count.Of n) l' p' f'
+      → FlushPromise t l p f (Ok n) l' p' f'
       → n ≤ lengths_least
   flush_counts {t} {f} h =
-      count_given (λ (n : ℕ). n ≤ lengths_least) (λ (x : Flushed). length x.datagrams) (count.Of n) (flushes l p f t) h.answer
+      count_given (λ (n : ℕ). n ≤ lengths_least) (λ (x : Flushed). length x.datagrams) (Ok n) (flushes l p f t) h.answer
       (flushes_few l p f t)
 
   -- so did an update
   pub update_counts : {t : ℕ} {f : FlushParts} {l' : Link} {p' : Parts} {f' : FlushParts}
-      → UpdatePromise t l p f (update.Wrote n) l' p' f'
+      → UpdatePromise t l p f (Ok (Some n)) l' p' f'
       → n ≤ lengths_least
   update_counts {t} {f} h =
       few_answered n (updates l p f t) h.answer (updates_few l p f t)
 
   -- a message that is read, or whose size is told, has at most 127 segments
-  pub read_counts : {buffer : List ℕ} {l' : Link} {p' : Parts} {buffer' : List ℕ} → ReadPromise l p buffer (count.Of n) l' p' buffer'
+  pub read_counts : {buffer : List ℕ} {l' : Link} {p' : Parts} {buffer' : List ℕ} → ReadPromise l p buffer (Ok n) l' p' buffer'
       → MessageFits l.settings n
   read_counts {buffer} h =
-      count_given (MessageFits l.settings) (λ (x : Reads). length x.bytes) (count.Of n) (reads l p (length buffer)) h.answer
+      count_given (MessageFits l.settings) (λ (x : Reads). length x.bytes) (Ok n) (reads l p (length buffer)) h.answer
       (reads_fit l p (length buffer))
 
-  pub size_counts : SizePromise l p (count.Of n) → MessageFits l.settings n
+  pub size_counts : SizePromise l p (Ok n) → MessageFits l.settings n
   size_counts h = subst (OfResult (MessageFits l.settings)) (sym h.answer) (tells_fit l p)
 
 -- ---- segments ready where no message can be read, of a block whose arrays are as long as their types say
@@ -215,7 +213,7 @@ module _ (l : Link) (p : Parts) (whole : Whole (arrays_of l)) where
       omega (arith, n, ready_below_window (state_in l p) (is_valid l p made) e)
 
   -- where the size of the next message is refused with 9, the block passes 13, and that holds of it
-  pub nine_below_window : SizePromise l p (count.Refused NoMessage) → (is_made l p ≡ true) × (l.arrival.ready < receive_window)
+  pub nine_below_window : SizePromise l p (Err NoMessage) → (is_made l p ≡ true) × (l.arrival.ready < receive_window)
   unfolding tells_with telling state_of
   nine_below_window h = go (enough (mss l.settings) (lengths_of p)) (is_made l p) refl h.answer
     where

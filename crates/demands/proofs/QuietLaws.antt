@@ -1,7 +1,7 @@
 -- From now until just before the time that a check names, with no call but such updates, no update flushes and no segment falls due; and
 -- that time is no sooner than it need be. From the promises of the public calls alone.
 -- Assumes nothing.
-use Rattle.std.specs.Prelude.{◌≡◌, refl, Bool, true, false, List, [], ◌∷◌, map, ◌⊎◌, ℕ, ◌^◌, ◌<◌, length}
+use Rattle.std.specs.Prelude.{◌≡◌, refl, Bool, true, false, List, [], ◌∷◌, map, ◌⊎◌, ℕ, ◌^◌, ◌<◌, length, Ok}
 use Rattle.std.proofs.Common.{◌∙◌, subst, arith}
 use Rattle.std.proofs.Math.Logic.{inl, inr, ⊎_elim}
 use Rattle.protocol.specs.Ranges.{mss}
@@ -22,8 +22,6 @@ use Rattle.session.specs.Calls.{Call, Event}
 use Rattle.session.specs.Decides.{All}
 use Rattle.session.specs.AllLaws.{all_weaker}
 use Rattle.control.specs.Views.{state_of}
-use Rattle.answers.specs.declared.Update.{Update}
-use Rattle.answers.specs.declared.Time.TheVariants as time
 use Rattle.promises.specs.Parts.{FlushParts, lengths_of, state_in, is_made}
 use Rattle.promises.specs.Outcomes.{checked, updates_with, checks_with}
 use Rattle.promises.specs.Answers.{update_answer}
@@ -34,6 +32,7 @@ use Rattle.demands.proofs.Simulation.{long_flush}
 use Rattle.demands.proofs.RunLaws.{since_opening}
 use Rattle.demands.specs.Quiet.{Within, Updates, start, next, Idle, waited, refused, NoneDue, StaysQuiet, FlushesAt, NoSooner}
 use Rattle.demands.specs.QuietLaws.{Fits}
+use Rattle.answers.specs.Answers.{Update}
 
 each : (P : ℕ → Type 0) (l : List Sent) → All (λ (x : Sent). P x.record.due) l → schedule.Each P (map (λ (x : Sent). x.record.due) l)
 each P [] h = tt
@@ -117,7 +116,7 @@ record Named (now n : ℕ) (e : Endpoint) : Type 0 where
   made : is_made e.link e.parts ≡ true
   named : n ≡ checking (state_in e.link e.parts) now
 
-named_by : (now n : ℕ) (e : Endpoint) → CheckPromise now e.link e.parts (time.At n) → Named now n e
+named_by : (now n : ℕ) (e : Endpoint) → CheckPromise now e.link e.parts (Ok n) → Named now n e
 unfolding checks_with
 named_by now n e h =
     let g =
@@ -160,7 +159,7 @@ module _ (e : Endpoint) (now : ℕ) (f : Fits (state_in e.link e.parts)) (hn : n
 -- ---- the theorems, of any block and parts of their types
 
 module _ (e : Endpoint) (now named : ℕ) (f : Fits (state_in e.link e.parts)) (hn : now < 2 ^ 32)
-    (check : CheckPromise now e.link e.parts (time.At named)) where
+    (check : CheckPromise now e.link e.parts (Ok named)) where
   is_named_lem : named ≡ checking (state_in e.link e.parts) now
   is_named_lem = (named_by now named e check).named
 

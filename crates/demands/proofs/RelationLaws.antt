@@ -1,7 +1,7 @@
 -- What size tells is what read gives, and the ack list after an input as one equality: from the promises alone, of every block and all lent
 -- parts.
 -- Assumes nothing.
-use Rattle.std.specs.Prelude.{◌≡◌, Bool, cond, ◌&&◌, List, [], ◌∷◌, ℕ, zero, suc, ◌+◌, ◌*◌, ◌≤◌, ◌<◌, take, drop}
+use Rattle.std.specs.Prelude.{◌≡◌, Bool, cond, ◌&&◌, List, [], ◌∷◌, ℕ, zero, suc, ◌+◌, ◌*◌, ◌≤◌, ◌<◌, take, drop, Err, Ok}
 use Rattle.std.proofs.Math.Path.{refl}
 use Rattle.std.proofs.Common.{sym, ap, ◌∙◌, mul-le-mul_right, arith, length-append, length-take, length-drop, take-append-drop, length-take-le}
 use Rattle.std.proofs.Math.Bool.{true, false}
@@ -35,15 +35,13 @@ use Rattle.session.specs.Decides.{All, and_parts}
 use Rattle.session.specs.IsValid.{IsValid}
 use Rattle.control.specs.declared.Link.{Link}
 use Rattle.control.specs.Views.{pairs, state_of, counts_fit}
-use Rattle.answers.specs.declared.Answer.{Answer}
-use Rattle.answers.specs.declared.Count.{Count}
-use Rattle.answers.specs.declared.Count.TheVariants as count
 use Rattle.promises.specs.Parts.{Parts, lengths_of, state_in, is_made}
 use Rattle.promises.specs.Outcomes.{checked, takes_in_with, reads_with, tells_with, takes_in}
 use Rattle.promises.specs.Answers.{Counts, count_outcome}
 use Rattle.promises.specs.Promises.{TookIn, InputPromise, InputLeaves, ReadPromise, SizePromise}
 use Rattle.demands.specs.Relations.{read_as, entries_of, acks_after}
 use Rattle.demands.proofs.CountLaws.{is_valid, short, low}
+use Rattle.answers.specs.Answers.{Answer, Count}
 
 -- ---- parts that are long enough
 
@@ -100,19 +98,19 @@ own_read s v pool room long a b = go (readable s.receiving.ready) (leb (message_
         (cond f (done (record { state = with_receiving s (after_read s.receiving); bytes = message s pool })) (refused ShortPart))
         (refused NoMessage))
         → b ≡ read_as a room
-    go true true e (count.Of n) t q =
+    go true true e (Ok n) t q =
         let m : n ≡ message_size s.receiving = cc in
-        rw (m, e) (q ∙ ap count.Of (message_length s v pool long))
-    go true false e (count.Of n) t q =
+        rw (m, e) (q ∙ ap Ok (message_length s v pool long))
+    go true false e (Ok n) t q =
         let m : n ≡ message_size s.receiving = cc in
         rw (m, e) q
-    go true f e (count.Refused x) t q = absurd (let z : ◌≡◌ {A = ℕ} 0 1 = cc in omega arith)
-    go false f e (count.Of n) t q = absurd (let z : ◌≡◌ {A = ℕ} 0 1 = cc in omega arith)
-    go false f e (count.Refused x) t q = cc
+    go true f e (Err x) t q = absurd (let z : ◌≡◌ {A = ℕ} 0 1 = cc in omega arith)
+    go false f e (Ok n) t q = absurd (let z : ◌≡◌ {A = ℕ} 0 1 = cc in omega arith)
+    go false f e (Err x) t q = cc
 
-refused_read : (a b : Count) (r : Refusal) (room : ℕ) → count_outcome a ≡ refused r → b ≡ count.Refused r → b ≡ read_as a room
-refused_read (count.Of n) b r room t q = absurd (let z : ◌≡◌ {A = ℕ} 0 1 = cc in omega arith)
-refused_read (count.Refused x) b r room t q = cc
+refused_read : (a b : Count) (r : Refusal) (room : ℕ) → count_outcome a ≡ refused r → b ≡ Err r → b ≡ read_as a room
+refused_read (Ok n) b r room t q = absurd (let z : ◌≡◌ {A = ℕ} 0 1 = cc in omega arith)
+refused_read (Err x) b r room t q = cc
 
 module _ (l : Link) (p : Parts) where
   -- what size tells is what read gives

@@ -1,6 +1,6 @@
 -- Lists of calls since an accepted opening: their answers are the station's, and so is what they leave.
 -- Assumes nothing.
-use Rattle.std.specs.Prelude.{◌≡◌, refl, Bool, true, false, cond, List, ℕ, ◌^◌, ◌<◌}
+use Rattle.std.specs.Prelude.{◌≡◌, refl, Bool, true, false, cond, List, ℕ, ◌^◌, ◌<◌, Err, Ok}
 use Rattle.std.proofs.Common.{arith}
 use Rattle.protocol.specs.Protocol.{output_least, lengths_least}
 use Rattle.protocol.specs.Ranges.{in_range, mss}
@@ -14,7 +14,6 @@ use Rattle.session.specs.Calls.{Call, Event, history, after}
 use Rattle.session.specs.Decides.{All}
 use Rattle.control.specs.Views.{counts_fit}
 use Rattle.control.specs.declared.Link.{Link}
-use Rattle.answers.specs.declared.Answer.TheVariants as answer
 use Rattle.promises.specs.Parts.{Parts, lengths_of, state_in}
 use Rattle.promises.specs.Answers.{Accepts}
 use Rattle.promises.specs.Promises.{OpenLeaves}
@@ -24,6 +23,7 @@ use Rattle.delivery.specs.AlwaysValid.{opened_all}
 use Rattle.demands.specs.Steps.{Endpoint, Runs, start, next, Opens, SinceOpening}
 use Rattle.demands.specs.Stations.{station_of}
 use Rattle.demands.proofs.Simulation.{Preserved, long_flush, preserved_call, step_call}
+use Rattle.answers.specs.Answers.{Answer}
 
 -- ---- opening
 
@@ -34,16 +34,16 @@ record Fresh (c : Settings) (l : Link) (p : Parts) : Type 0 where
   counts : counts_fit l ≡ true
   state : state_in l p ≡ opened c
 
-refusal_not_accepted : {A : Type 0} {r : Refusal} → answer.Accepted ≡ answer.Refused r → A
+refusal_not_accepted : {A : Type 0} {r : Refusal} → ◌≡◌ {A = Answer} (Ok tt) (Err r) → A
 refusal_not_accepted e = absurd (let z : ◌≡◌ {A = ℕ} 0 1 = cc in omega arith)
 
-fresh : (c : Settings) (block l : Link) (lent p : Parts) → Accepts answer.Accepted (opening c (lengths_of lent))
+fresh : (c : Settings) (block l : Link) (lent p : Parts) → Accepts (Ok tt) (opening c (lengths_of lent))
     → OpenLeaves (opening c (lengths_of lent)) block l lent p → Fresh c l p
 unfolding opening
 fresh c block l lent p = go (in_range c) refl (enough (mss c) (lengths_of lent)) refl
   where
     go : (a : Bool) → in_range c ≡ a → (b : Bool) → enough (mss c) (lengths_of lent) ≡ b
-        → Accepts answer.Accepted (cond a (cond b (Outcome.done (opened c)) (Outcome.refused ShortPart))
+        → Accepts (Ok tt) (cond a (cond b (Outcome.done (opened c)) (Outcome.refused ShortPart))
         (Outcome.refused SettingOutOfRange))
         → OpenLeaves (cond a (cond b (Outcome.done (opened c)) (Outcome.refused ShortPart)) (Outcome.refused SettingOutOfRange)) block l
         lent p

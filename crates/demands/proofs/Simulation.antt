@@ -1,6 +1,6 @@
 -- A call that keeps its promise is the station's own call: the same answer, and the station that the endpoint then stands for.
 -- Assumes nothing.
-use Rattle.std.specs.Prelude.{◌≡◌, refl, Bool, true, false, cond, List, map, ℕ, ◌^◌, ◌≤◌, ◌<◌, leb, length}
+use Rattle.std.specs.Prelude.{◌≡◌, refl, Bool, true, false, cond, List, map, ℕ, ◌^◌, ◌≤◌, ◌<◌, leb, length, Err, Ok}
 use Rattle.std.proofs.Common.{sym, ap, ◌∙◌, arith, leb-true, le-leb}
 use Rattle.std.proofs.lemmas.List.{length-map}
 use Rattle.protocol.specs.Protocol.{output_least, lengths_least}
@@ -21,12 +21,7 @@ use Rattle.session.specs.Calls.{Call, Reply, Stepped, after_send, after_take_in,
 use Rattle.control.specs.Views.{state_of, counts_fit, block_valid}
 use Rattle.records.specs.TableLaws.{scattered_length}
 use Rattle.packing.specs.Packers.{joined}
-use Rattle.answers.specs.declared.Answer as given
-use Rattle.answers.specs.declared.Count.{Count}
-use Rattle.answers.specs.declared.Count.TheVariants as count
-use Rattle.answers.specs.declared.Update.{Update}
-use Rattle.answers.specs.declared.Time.{Time}
-use Rattle.answers.specs.declared.Time.TheVariants as time
+use Rattle.answers.specs.Answers as given
 use Rattle.promises.specs.Parts.{Parts, FlushParts, lengths_of, state_in, is_made, Unchanged}
 use Rattle.promises.specs.Outcomes.{
   sends_with,
@@ -53,6 +48,7 @@ use Rattle.delivery.specs.AlwaysValid.{InOrder, in_order_valid, in_order_long, i
 use Rattle.demands.specs.Steps.{Endpoint, Room, acceptance, datagrams_seen, update_seen, time_seen, message_seen, Called}
 use Rattle.demands.specs.Stations.{station_of}
 use Rattle.demands.specs.OutputLaws.{front_again, joined_flatten, output_cut, message_short}
+use Rattle.answers.specs.Answers.{Count, Update, Time}
 
 -- the station after a call is that of the endpoint e', the answer is a, and the counts of the block are within its arrays
 pub record Becomes (y : Stepped) (a : Reply) (e' : Endpoint) : Type 0 where
@@ -128,8 +124,8 @@ UpdateFits (Updates.flushes x) f = FlushFits x f
 
 -- a time that is not refused is seen
 named_seen : (g : Time) (t : ℕ) → time_outcome g ≡ Outcome.done t → time_seen g ≡ Reply.named t
-named_seen (time.At n) t e = cc
-named_seen (time.Refused r) t e = absurd (let z : ◌≡◌ {A = ℕ} 0 1 = cc in omega arith)
+named_seen (Ok n) t e = cc
+named_seen (Err r) t e = absurd (let z : ◌≡◌ {A = ℕ} 0 1 = cc in omega arith)
 
 module _ (e e' : Endpoint) (fit : counts_fit e.link ≡ true) where
   -- the state alone changes
@@ -166,7 +162,7 @@ module _ (e e' : Endpoint) (fit : counts_fit e.link ≡ true) where
     counts = q.stands.counts;
   }
 
-  flush_becomes : (f f' : FlushParts) (x : Flushed) (r : Count) → r ≡ count.Of (length x.datagrams)
+  flush_becomes : (f f' : FlushParts) (x : Flushed) (r : Count) → r ≡ Ok (length x.datagrams)
       → Flushes x e'.link e.parts e'.parts f f'
       → FlushFits x f
       → Becomes (after_flush (station_of e) x) (datagrams_seen r f') e'
@@ -195,7 +191,7 @@ module _ (e e' : Endpoint) (fit : counts_fit e.link ≡ true) where
     counts = q.stands.counts;
   }
   update_becomes f f' (Updates.flushes x) r ans q fits =
-      rw ans (flush_becomes f f' x (count.Of (length x.datagrams)) refl q fits)
+      rw ans (flush_becomes f f' x (Ok (length x.datagrams)) refl q fits)
 
   read_becomes : (buffer buffer' : List ℕ) (o : Outcome Reads) (r : Count) → Counts (λ (x : Reads). length x.bytes) r o
       → ReadLeaves o e.link e'.link e.parts e'.parts buffer buffer'

@@ -14,12 +14,12 @@ use Rattle.session.specs.Flushing.{written, flushing}
 use Rattle.session.specs.Updating as session
 use Rattle.session.specs.Updating.{updating}
 use Rattle.control.specs.declared.Link.{Link}
-use Rattle.answers.specs.declared.Update.{Update}
 use Rattle.promises.specs.Parts.{Parts, FlushParts, lengths_of, state_in, is_made}
 use Rattle.promises.specs.Outcomes.{checked, updates_with}
 use Rattle.promises.specs.Answers.{update_answer}
 use Rattle.promises.specs.Promises.{UpdateLeaves, UpdatePromise}
 use Rattle.demands.specs.Relations.{Treated}
+use Rattle.answers.specs.Answers.{Update}
 
 -- ---- of a schedule: one that does not flush stays as it is
 

@@ -1,6 +1,6 @@
 -- What is claimed of calls since an accepted opening, in the terms of the caller: block, lent parts, and the answers given.
 -- Assumes nothing.
-use Rattle.std.specs.Prelude.{◌≡◌, ℕ, ◌+◌, ◌<◌, ◌%◌, ◌^◌, length, drop}
+use Rattle.std.specs.Prelude.{◌≡◌, ℕ, ◌+◌, ◌<◌, ◌%◌, ◌^◌, length, drop, Ok}
 use mathlib.Core.List.{List, ◌++◌, flatten}
 use Rattle.protocol.specs.Ranges.{mss}
 use Rattle.protocol.specs.declared.Settings.{Settings}
@@ -10,7 +10,6 @@ use Rattle.session.specs.Calls.{Call, Reply, Event, accepted_list}
 use Rattle.delivery.specs.Accepted.{numbered_by}
 use Rattle.delivery.specs.Claims.{Observed}
 use Rattle.delivery.specs.Ledger.{fragments_by, acknowledged_by}
-use Rattle.answers.specs.declared.Count.TheVariants as count
 use Rattle.promises.specs.Parts.{state_in}
 use Rattle.promises.specs.Promises.{SizePromise}
 use Rattle.demands.specs.Steps.{Endpoint, Called, Runs, start, next}
@@ -20,7 +19,7 @@ use Rattle.demands.specs.Stations.{station_of}
 
 -- the call is a read, and its buffer is shorter than the message, whose size telling it gives
 abbrev pub ShortBuffer : Endpoint → Call → Type 0
-ShortBuffer e (Call.read room) = (n : ℕ) × SizePromise e.link e.parts (count.Of n) × (room < n)
+ShortBuffer e (Call.read room) = (n : ℕ) × SizePromise e.link e.parts (Ok n) × (room < n)
 ShortBuffer e (Call.send m) = ⊥
 ShortBuffer e (Call.take_in d) = ⊥
 ShortBuffer e (Call.flush t) = ⊥

@@ -1,7 +1,7 @@
 -- What the time that a check names is worth: "From now until just before the named time, with no call but such updates, no update flushes
 -- and no segment falls due." Times need not rise; "just before" is by the distance from now, counting forward. Definitions.
 -- Assumes nothing.
-use Rattle.std.specs.Prelude.{◌≡◌, true, false, List, [], ◌∷◌, ◌⊎◌, ℕ, ◌^◌, ◌≤◌, ◌<◌}
+use Rattle.std.specs.Prelude.{◌≡◌, true, false, List, [], ◌∷◌, ◌⊎◌, ℕ, ◌^◌, ◌≤◌, ◌<◌, Err, None, Ok, Some}
 use Rattle.protocol.specs.Serial.{minus, is_due}
 use Rattle.protocol.specs.declared.Refusal.{Refusal}
 use Rattle.lists.specs.declared.Sent.{Sent}
@@ -9,11 +9,10 @@ use Rattle.schedule.specs.ScheduleLaws.{any_due}
 use Rattle.session.specs.State.{State, with_times}
 use Rattle.session.specs.Updating.{dues}
 use Rattle.session.specs.Decides.{All}
-use Rattle.answers.specs.declared.Update.{Update}
-use Rattle.answers.specs.declared.Update.TheVariants as update
 use Rattle.promises.specs.Parts.{FlushParts, state_in}
 use Rattle.promises.specs.Promises.{UpdatePromise}
 use Rattle.demands.specs.Steps.{Endpoint, Room}
+use Rattle.answers.specs.Answers.{Update}
 
 -- the time t is from now until just before the named time
 pub record Within (now named t : ℕ) : Type 0 where
@@ -31,8 +30,8 @@ pub data Updates : Endpoint → List ℕ → List Update → Endpoint → Type 0
 
 -- the answer of an update that does not flush
 pub data Idle : Update → Type 0 where
-  waited : Idle update.Waited
-  refused : (r : Refusal) → Idle (update.Refused r)
+  waited : Idle (Ok None)
+  refused : (r : Refusal) → Idle (Err r)
 
 -- no outstanding segment is due at t
 abbrev pub NoneDue : ℕ → State → Type 0
@@ -52,7 +51,7 @@ abbrev pub FlushesAt : ℕ → Endpoint → Type 0
 FlushesAt t e =
     (a : Update) (e' : Endpoint) (f f' : FlushParts) → Room f
     → UpdatePromise t e.link e.parts f a e'.link e'.parts f'
-    → (n : ℕ) × (a ≡ update.Wrote n)
+    → (n : ℕ) × (a ≡ Ok (Some n))
 
 -- and the named time is no sooner than it need be: it is one interval away, or an update then flushes, or a segment is due then
 pub record NoSooner (now named : ℕ) (e : Endpoint) : Type 0 where

@@ -1,6 +1,6 @@
 -- What one call says of another, the ack list as one list, and an update as a flush or a new current time alone. Definitions.
 -- Assumes nothing.
-use Rattle.std.specs.Prelude.{◌≡◌, cond, List, [], ◌∷◌, map, ℕ, leb, length}
+use Rattle.std.specs.Prelude.{◌≡◌, cond, List, [], ◌∷◌, map, ℕ, leb, length, Err, None, Ok, Some}
 use Rattle.std.proofs.lemmas.List.Edits.{sets}
 use Rattle.protocol.specs.declared.Refusal.TheVariants.{ShortPart}
 use Rattle.schedule.specs.declared.Schedule.{Schedule}
@@ -8,17 +8,14 @@ use Rattle.session.specs.State.{Ack, Outcome, refused, done, with_times, with_sc
 use Rattle.session.specs.Input.{Took}
 use Rattle.session.specs.Flushing.{bytes_of_segments, flushing}
 use Rattle.control.specs.declared.Link.{Link}
-use Rattle.answers.specs.declared.Count.{Count}
-use Rattle.answers.specs.declared.Count.TheVariants as count
-use Rattle.answers.specs.declared.Update.{Update}
-use Rattle.answers.specs.declared.Update.TheVariants as update
 use Rattle.promises.specs.Parts.{Parts, FlushParts, state_in, Stands}
 use Rattle.promises.specs.Promises.{table_of, WrittenTo}
+use Rattle.answers.specs.Answers.{Count, Update}
 
 -- where telling the size answers so, a read into so many bytes answers the same; 7 where they are fewer than that size
 abbrev pub read_as : Count → ℕ → Count
-read_as (count.Refused r) room = count.Refused r
-read_as (count.Of n) room = cond (leb n room) (count.Of n) (count.Refused ShortPart)
+read_as (Err r) room = Err r
+read_as (Ok n) room = cond (leb n room) (Ok n) (Err ShortPart)
 
 -- the entries of noted acks: sn then ts
 unfoldable pub entries_of : List Ack → List ℕ
@@ -51,6 +48,6 @@ pub record CurrentAlone (t : ℕ) (l : Link) (p : Parts) (f : FlushParts) (l' : 
 
 -- by the answer
 abbrev pub Treated : ℕ → Link → Parts → FlushParts → Update → Link → Parts → FlushParts → Type 0
-Treated t l p f update.Waited l' p' f' = CurrentAlone t l p f l' p' f'
-Treated t l p f (update.Wrote n) l' p' f' = AsFlush t l p f n l' p' f'
-Treated t l p f (update.Refused r) l' p' f' = Unit {0}
+Treated t l p f (Ok None) l' p' f' = CurrentAlone t l p f l' p' f'
+Treated t l p f (Ok (Some n)) l' p' f' = AsFlush t l p f n l' p' f'
+Treated t l p f (Err r) l' p' f' = Unit {0}

@@ -1,23 +1,17 @@
 -- Calls of a link and lists of them, as a caller has them. A step is exactly what the public call promises (crate `promises`, Promises),
 -- and its answer is what the caller sees: the answer given, the output cut by the lengths, the first bytes of the buffer.
 -- Assumes nothing.
-use Rattle.std.specs.Prelude.{◌≡◌, List, [], ◌∷◌, ℕ, ◌^◌, ◌≤◌, ◌<◌, length, take, drop}
+use Rattle.std.specs.Prelude.{◌≡◌, List, [], ◌∷◌, ℕ, ◌^◌, ◌≤◌, ◌<◌, length, take, drop, Err, None, Ok, Some}
 use Rattle.protocol.specs.Protocol.{output_least, lengths_least}
 use Rattle.protocol.specs.declared.Settings.{Settings}
 use Rattle.session.specs.Calls.{Call, Reply, Event}
 use Rattle.session.specs.Decides.{All}
 use Rattle.control.specs.declared.Link.{Link}
-use Rattle.answers.specs.declared.Answer as given
-use Rattle.answers.specs.declared.Answer.TheVariants as answer
-use Rattle.answers.specs.declared.Count.{Count}
-use Rattle.answers.specs.declared.Count.TheVariants as count
-use Rattle.answers.specs.declared.Update.{Update}
-use Rattle.answers.specs.declared.Update.TheVariants as update
-use Rattle.answers.specs.declared.Time.{Time}
-use Rattle.answers.specs.declared.Time.TheVariants as time
+use Rattle.answers.specs.Answers as given
 use Rattle.promises.specs.Parts.{Parts, FlushParts}
 use Rattle.promises.specs.Promises.{OpenPromise, SendPromise, InputPromise, FlushPromise, ReadPromise, UpdatePromise, CheckPromise}
 use Rattle.delivery.specs.Hearing.{CallFits}
+use Rattle.answers.specs.Answers.{Count, Update, Time}
 
 -- a link as its caller holds it: the control block, and the parts lent to every call
 pub record Endpoint : Type 0 where
@@ -28,8 +22,8 @@ pub record Endpoint : Type 0 where
 
 -- of a message sent or a datagram taken in: accepted, or the refusal
 abbrev pub acceptance : given.Answer → Reply
-acceptance answer.Accepted = Reply.accepted
-acceptance (answer.Refused r) = Reply.refused r
+acceptance (Ok tt) = Reply.accepted
+acceptance (Err r) = Reply.refused r
 
 -- bytes cut into datagrams of these lengths, one behind the other
 unfoldable pub cut_by : List ℕ → List ℕ → List (List ℕ)
@@ -38,24 +32,24 @@ cut_by (n ∷ lengths) bytes = take n bytes ∷ cut_by lengths (drop n bytes)
 
 -- of a flush that answers n: the output cut by the first n lengths
 abbrev pub datagrams_seen : Count → FlushParts → Reply
-datagrams_seen (count.Of n) f = Reply.wrote (cut_by (take n f.lengths) f.output)
-datagrams_seen (count.Refused r) f = Reply.refused r
+datagrams_seen (Ok n) f = Reply.wrote (cut_by (take n f.lengths) f.output)
+datagrams_seen (Err r) f = Reply.refused r
 
 -- of an update: that it waited, or the same of its flush
 abbrev pub update_seen : Update → FlushParts → Reply
-update_seen update.Waited f = Reply.waited
-update_seen (update.Wrote n) f = datagrams_seen (count.Of n) f
-update_seen (update.Refused r) f = Reply.refused r
+update_seen (Ok None) f = Reply.waited
+update_seen (Ok (Some n)) f = datagrams_seen (Ok n) f
+update_seen (Err r) f = Reply.refused r
 
 -- of a check: the time
 abbrev pub time_seen : Time → Reply
-time_seen (time.At t) = Reply.named t
-time_seen (time.Refused r) = Reply.refused r
+time_seen (Ok t) = Reply.named t
+time_seen (Err r) = Reply.refused r
 
 -- of a read that answers n: the first n bytes of the buffer
 abbrev pub message_seen : Count → List ℕ → Reply
-message_seen (count.Of n) buffer = Reply.message (take n buffer)
-message_seen (count.Refused r) buffer = Reply.refused r
+message_seen (Ok n) buffer = Reply.message (take n buffer)
+message_seen (Err r) buffer = Reply.refused r
 
 -- ---- one call
 
@@ -130,7 +124,7 @@ pub data Runs : Endpoint → List Call → List Event → Endpoint → Type 0 wh
 pub record Opens (c : Settings) (e : Endpoint) : Type 0 where
   pub block : Link
   pub lent : Parts
-  pub promise : OpenPromise c block lent answer.Accepted e.link e.parts
+  pub promise : OpenPromise c block lent (Ok tt) e.link e.parts
 
 -- an accepted opening with the settings c, then these calls with these answers, after which the endpoint is e. A conversation has 32 bits,
 -- a call's bytes are bytes and its time has 32 bits

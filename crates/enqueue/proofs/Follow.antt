@@ -15,8 +15,8 @@ use Rattle.session.specs.Cutting.{segment_count, pieces, cut_as}
 use Rattle.session.specs.Sending.{Placed, place, Filled, filled, sending}
 use Rattle.session.specs.FillLaws.{room_of, filled_rest}
 use Rattle.words.specs.Words.{held_in}
-use Rattle.answers.specs.declared.Answer.TheVariants.{Accepted, Refused}
 use Rattle.enqueue.specs.Enqueueing.{Marked, Fills, Places, PartsOf, Follows}
+use Rattle.std.specs.Prelude.{Err, Ok}
 
 -- slots held, fewer than so many
 pub marked_most : {marks : List ℕ} {k : ℕ} (l : ℕ) → k ≤ l → Marked marks k → Marked marks l
@@ -48,7 +48,7 @@ module _ {s : State} {stream : Bool} {m : ℕ} {queued : List ℕ} {n k : ℕ} {
 
     -- 10
     pub follows_long : 127 * m < length message - first
-        → Follows (sending s pool message) queued n pool (record { answer = Refused LongMessage; queued = n }) queued pool
+        → Follows (sending s pool message) queued n pool (record { answer = Err LongMessage; queued = n }) queued pool
     follows_long h = rw (long h) (record { answer = refl; count = refl; list = refl; pool_same = refl })
 
     module _ {count : ℕ} (e : count ≡ segment_count stream m (length message - first)) (h : length message - first ≤ 127 * m) where
@@ -63,7 +63,7 @@ module _ {s : State} {stream : Bool} {m : ℕ} {queued : List ℕ} {n k : ℕ} {
 
       -- 11
       pub follows_full : k + n ≤ 128 → 128 < k + n + count
-          → Follows (sending s pool message) queued n pool (record { answer = Refused NoFreeSlots; queued = n }) queued pool
+          → Follows (sending s pool message) queued n pool (record { answer = Err NoFreeSlots; queued = n }) queued pool
       follows_full most g = rw (full most g) (record { answer = refl; count = refl; list = refl; pool_same = refl })
 
       abbrev new : Placed
@@ -86,7 +86,7 @@ module _ {s : State} {stream : Bool} {m : ℕ} {queued : List ℕ} {n k : ℕ} {
           → Fills (filled stream m (held_in queued n) pool message) n between pool₁)
           → ((h : Marked marks (128 - count))
           → Places (place stream m h.now pool₁ (pieces m count (drop first message))) between n after r pool')
-          → Follows (sending s pool message) queued n pool (record { answer = Accepted; queued = r }) after pool'
+          → Follows (sending s pool message) queued n pool (record { answer = Ok tt; queued = r }) after pool'
       follows_placed g between pool₁ after r pool' x y =
           let a = (rw (← p.queue) at (x stream has)) in
           let b = (rw (← cuts, a.pool_is) at (y (record { now = used; free = p.free; most = omega (arith, p.held) }))) in

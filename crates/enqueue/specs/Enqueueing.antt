@@ -1,6 +1,6 @@
 -- What the functions leave, beside what the link's definitions give. Definitions.
 -- Assumes nothing.
-use Rattle.std.specs.Prelude.{◌≡◌, Bool, List, ◌++◌, ℕ, ◌+◌, ◌-◌, ◌*◌, ◌^◌, ◌≤◌, ◌<◌, min, length, take, drop, get_or}
+use Rattle.std.specs.Prelude.{◌≡◌, Bool, List, ◌++◌, ℕ, ◌+◌, ◌-◌, ◌*◌, ◌^◌, ◌≤◌, ◌<◌, min, length, take, drop, get_or, Err, Ok}
 use Rattle.std.proofs.lemmas.List.Edits.{sets}
 use Rattle.protocol.specs.Protocol.{send_slots}
 use Rattle.protocol.specs.Ranges.{mss, is_stream}
@@ -11,7 +11,6 @@ use Rattle.session.specs.State.{State, Outcome, refused, done, send_held, slots}
 use Rattle.session.specs.Sending.{Placed, Filled, Sends}
 use Rattle.words.specs.Words.{unpack, held_in}
 use Rattle.marks.specs.Marks.{Free}
-use Rattle.answers.specs.declared.Answer.TheVariants.{Accepted, Refused}
 use Rattle.enqueue.specs.declared.Enqueued.{Enqueued}
 
 -- the marks are those of slots held, k at most
@@ -81,14 +80,14 @@ pub record PartsOf (s : State) (stream : Bool) (m : ℕ) (queued : List ℕ) (n 
 
 -- a refusal: its number alone, the list and the pool as they were
 pub record Unchanged (r : Refusal) (before : List ℕ) (n : ℕ) (pool : List ℕ) (e : Enqueued) (after pool' : List ℕ) : Type 0 where
-  pub answer : e.answer ≡ Refused r
+  pub answer : e.answer ≡ Err r
   pub count : e.queued ≡ n
   pub list : after ≡ before
   pub pool_same : pool' ≡ pool
 
 -- an accepted message: the list and the pool after it
 pub record Queued (x : Sends) (e : Enqueued) (after pool' : List ℕ) : Type 0 where
-  pub answer : e.answer ≡ Accepted
+  pub answer : e.answer ≡ Ok tt
   pub whole : length after ≡ 128
   pub fits : e.queued ≤ 128
   pub list : held_in after e.queued ≡ x.state.sending.queued

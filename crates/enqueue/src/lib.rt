@@ -18,7 +18,7 @@ use protocol::{Protocol, Refusal};
 // The answer, and how many are queued after it.
 #[derive(Clone, Copy)]
 pub struct Enqueued {
-    pub answer: Answer,
+    pub answer: Answer<()>,
     pub queued: usize,
 }
 
@@ -57,11 +57,12 @@ fn word_of(slot: usize, len: usize, fragment: usize) -> u32
     requires { (slot < 256) × (len < 65536) × (fragment < 256) }
     ensures { unpack result ≡ record { slot = slot; len = len; fragment = fragment } }
 {
-    words::pack(Held {
+    Held {
         slot: slot as u16,
         len: len as u16,
         fragment: fragment as u8,
-    })
+    }
+    .word()
 }
 
 // How many bytes the last of n queued segments can take in: none in message mode, and where it is full or none is queued.
@@ -71,7 +72,7 @@ fn last_room(stream: bool, mss: usize, queued: &[u32; 128], n: usize) -> usize
 {
     if stream {
         if 0 < n {
-            let last = words::unpacked(queued[n - 1]);
+            let last = Held::from(queued[n - 1]);
             let len = last.len as usize;
             return mss - least(mss, len);
         }
@@ -97,7 +98,7 @@ fn fill(
     if room == 0 {
         return;
     }
-    let last = words::unpacked(queued[n - 1]);
+    let last = Held::from(queued[n - 1]);
     let slot = last.slot as usize;
     let len = last.len as usize;
     pools::copy_part(message, 0, k, pool, slot * mss + len);
@@ -135,7 +136,7 @@ fn place(
     let mut left = count;
     while 0 < left {
         left -= 1;
-        slot = marks::free_to_send(marks, slot);
+        slot = marks::free_from(marks, slot);
         let len = store(mss, message, at, pool, slot);
         queued[next] = word_of(slot, len, fragment_of(stream, left));
         next += 1;
@@ -170,20 +171,20 @@ pub fn enqueue(
     let full = Protocol::SEND_SLOTS < m + n + count;
     if long {
         return Enqueued {
-            answer: Answer::Refused(Refusal::LongMessage),
+            answer: Err(Refusal::LongMessage),
             queued: n,
         };
     }
     if full {
         return Enqueued {
-            answer: Answer::Refused(Refusal::NoFreeSlots),
+            answer: Err(Refusal::NoFreeSlots),
             queued: n,
         };
     }
     fill(mss, queued, n, room, pool, message, first);
     let after = place(stream, mss, queued, n, marks, pool, message, first, count);
     Enqueued {
-        answer: Answer::Accepted,
+        answer: Ok(()),
         queued: after,
     }
 }

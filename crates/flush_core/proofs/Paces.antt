@@ -12,8 +12,6 @@ use Rattle.schedule.specs.declared.Updated as schedule
 use Rattle.session.specs.State.{State, with_times}
 use Rattle.session.specs.Flushing.{flushing}
 use Rattle.session.specs.Updating.{updating}
-use Rattle.answers.specs.declared.Count.TheVariants as count
-use Rattle.answers.specs.declared.Update.TheVariants.{Waited}
 use Rattle.control.specs.declared.Flight.{Flight}
 use Rattle.control.specs.declared.Arrival.{Arrival}
 use Rattle.control.specs.declared.Clock.{Clock}
@@ -23,6 +21,7 @@ use Rattle.flush_core.specs.declared.Flushed.{Flushed}
 use Rattle.flush_core.specs.declared.parts.Step.{Step}
 use Rattle.flush_core.specs.Parts.{Moved, Steps, current_of}
 use Rattle.flush_core.specs.Flushes.{unflushed_of, Wrote, Runs}
+use Rattle.std.specs.Prelude.{None, Ok}
 
 module _ (c : Settings) (f : Flight) (a : Arrival) (k : Clock) (x : Arrays) (records : List Record) (acks : List ℕ)
     (t : ℕ) (pool out lengths : List ℕ) (s : Step) where
@@ -65,14 +64,14 @@ module _ (c : Settings) (f : Flight) (a : Arrival) (k : Clock) (x : Arrays) (rec
         → Wrote (link_of c f a s.clock x) records pool acks t out lengths r after records' out' lengths'
         → Runs paced block records pool acks t out lengths r after records' out' lengths'
     unfolding updating state_of
-    flushed false steps e h = let q = rw steps at h in (count.Of (length (flushing before t pool).datagrams), q.0, q.1)
+    flushed false steps e h = let q = rw steps at h in (Ok (length (flushing before t pool).datagrams), q.0, q.1)
     flushed true steps e h =
         let same : s.clock ≡ current_of s.clock k.current = ap (λ (y : Clock). current_of s.clock y.current) steps.is in
         let q = rw (moved steps s.clock k.current same) at h in
         rw (sym (decided steps) ∙ e) q
 
   pub waited : (paced : Bool) → Steps paced k t c.interval s → s.flushes ≡ false → counted f a ≡ true
-      → (k' : Clock) → k' ≡ current_of s.clock t → (r : Flushed) → r ≡ unflushed_of Waited f a k' → (records' : List Record)
+      → (k' : Clock) → k' ≡ current_of s.clock t → (r : Flushed) → r ≡ unflushed_of (Ok None) f a k' → (records' : List Record)
       → Runs paced block records pool acks t out lengths r (link_of c r.flight r.arrival r.clock x) records' out lengths
   unfolding updating counts_fit
   waited false steps e n k' d r w records' = absurd (true≢false (sym (ap (λ (y : Step). y.flushes) steps) ∙ e))

@@ -1,6 +1,6 @@
 -- What the core of a flush and of an update leaves. Definitions.
 -- Assumes nothing.
-use Rattle.std.specs.Prelude.{◌≡◌, Bool, true, false, List, ℕ, ◌*◌, ◌≤◌, length}
+use Rattle.std.specs.Prelude.{◌≡◌, Bool, true, false, List, ℕ, ◌*◌, ◌≤◌, length, Err, Ok, Some}
 use Rattle.protocol.specs.Protocol.{send_slots, acks_most, output_least, lengths_least}
 use Rattle.protocol.specs.Ranges.{in_range, mss}
 use Rattle.protocol.specs.declared.Settings.{Settings}
@@ -10,33 +10,29 @@ use Rattle.session.specs.State.{Outcome, done}
 use Rattle.session.specs.Flushing as session
 use Rattle.session.specs.Flushing.{flushing}
 use Rattle.session.specs.Updating.{flushes, updating}
-use Rattle.answers.specs.declared.Count.{Count}
-use Rattle.answers.specs.declared.Count.TheVariants as count
-use Rattle.answers.specs.declared.Update.{Update}
-use Rattle.answers.specs.declared.Update.TheVariants as update
 use Rattle.control.specs.declared.Flight.{Flight}
 use Rattle.control.specs.declared.Arrival.{Arrival}
 use Rattle.control.specs.declared.Clock.{Clock}
 use Rattle.control.specs.declared.Link.{Link}
 use Rattle.control.specs.Views.{sending_of, state_of, counted}
-use Rattle.record_words.specs.RecordWords.{records_in}
 use Rattle.promises.specs.Parts.{lent_lengths}
 use Rattle.promises.specs.Outcomes.{flushes_with, updates_with}
 use Rattle.promises.specs.Cores.{PutBack, FlushCore, UpdateCore}
 use Rattle.flush_core.specs.declared.Flushed.{Flushed}
+use Rattle.answers.specs.Answers.{Count, Update}
 
 -- ---- after the checks
 
 -- what the checks of 7 and 13 have established
-pub record Flushable (c : Settings) (f : Flight) (a : Arrival) (queued outstanding transmissions records : List ℕ)
+pub record Flushable (c : Settings) (f : Flight) (a : Arrival) (queued outstanding transmissions : List ℕ) (records : List Record)
     (pool acks out lengths : List ℕ) : Type 0 where
   pub queued_whole : length queued ≡ 128
   pub outstanding_whole : length outstanding ≡ 32
   pub transmissions_whole : length transmissions ≡ 32
-  pub records_whole : length records ≡ 128
+  pub records_whole : length records ≡ 32
   pub counts : counted f a ≡ true
   pub range : in_range c ≡ true
-  pub sends : sending_valid c (sending_of f queued outstanding transmissions (records_in records)) ≡ true
+  pub sends : sending_valid c (sending_of f queued outstanding transmissions records) ≡ true
   pub slots : send_slots * mss c ≤ length pool
   pub pairs : 2 * acks_most ≤ length acks
   pub bytes : output_least ≤ length out
@@ -61,8 +57,8 @@ Wrote l records pool acks t out lengths r l' records' out' lengths' =
 
 -- the answer of a flush as that of an update
 abbrev pub update_of : Count → Update
-update_of (count.Of n) = update.Wrote n
-update_of (count.Refused r) = update.Refused r
+update_of (Ok n) = Ok (Some n)
+update_of (Err r) = Err r
 
 -- what a flush leaves, with its count
 abbrev pub FlushLeaves : Outcome session.Flushed → Link → List Record → List ℕ → List ℕ → List ℕ → Flushed → Link → List Record

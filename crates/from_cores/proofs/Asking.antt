@@ -8,14 +8,13 @@ use Rattle.session.specs.State.{State, Outcome, done}
 use Rattle.session.specs.Reading.{Part, telling, showing}
 use Rattle.session.specs.Updating.{checking}
 use Rattle.control.specs.declared.Link.{Link}
-use Rattle.answers.specs.declared.Count.{Count}
-use Rattle.answers.specs.declared.Time.{Time}
 use Rattle.promises.specs.Parts.{Parts, lent_lengths}
 use Rattle.promises.specs.Outcomes.{tells_with, shows_with, checks_with, tells, checks, shows}
 use Rattle.promises.specs.Answers.{count_outcome, time_outcome}
 use Rattle.promises.specs.AnswerLaws.{count_number_lem, time_number_lem}
 use Rattle.promises.specs.Promises.{SizePromise, CheckPromise}
 use Rattle.from_cores.proofs.Gathered.{Gathers, outcome_in}
+use Rattle.answers.specs.Answers.{Count, Time}
 
 module _ (l : Link) (p : Parts) (records : List Record) (n : ℕ) (g : Gathers l p records n) where
   pub size_promised : (a : Count) → count_outcome a ≡ tells_with l records p.acks (lent_lengths n p.send_pool p.receive_pool p.acks)

@@ -14,7 +14,6 @@ use Rattle.session.specs.Flushing.{Flushed, flushing}
 use Rattle.control.specs.Views.{Whole, arrays_of}
 use Rattle.control.specs.declared.Link.{Link}
 use Rattle.records.specs.Tables.{slots_in, scattered}
-use Rattle.answers.specs.declared.Count.{Count}
 use Rattle.promises.specs.Parts.{Parts, FlushParts, lengths_of, lent_lengths, parts_of, records_of, state_in, is_made}
 use Rattle.promises.specs.Outcomes.{flushes_with, flushes}
 use Rattle.promises.specs.Answers.{Counts}
@@ -36,6 +35,7 @@ use Rattle.from_cores.proofs.Scattered.{
 }
 use Rattle.from_cores.proofs.SlotsAfter.{flush_slots}
 use Rattle.from_cores.proofs.Checked.{passed, made_valid, table_long, flush_enough}
+use Rattle.answers.specs.Answers.{Count}
 
 -- parts that hold the same are the same
 pub same_parts : (f f' : FlushParts) → f'.output ≡ f.output → f'.lengths ≡ f.lengths → f' ≡ f

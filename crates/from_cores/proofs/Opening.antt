@@ -6,13 +6,13 @@ use lib.ListN.{length}
 use Rattle.protocol.specs.declared.Settings.{Settings}
 use Rattle.session.specs.State.{State, Outcome, refused, done}
 use Rattle.control.specs.declared.Link.{Link}
-use Rattle.answers.specs.declared.Answer.{Answer}
 use Rattle.promises.specs.Parts.{Parts, records_of, lent_lengths}
 use Rattle.promises.specs.Outcomes.{opens_with, opens}
 use Rattle.promises.specs.Answers.{Accepts}
 use Rattle.promises.specs.AnswerLaws.{accepts_number}
 use Rattle.promises.specs.Promises.{OpenPromise, OpenLeaves}
 use Rattle.promises.specs.Cores.{OpenCore}
+use Rattle.answers.specs.Answers.{Answer}
 
 module _ (c : Settings) (l : Link) (p : Parts) (a : Answer) (l' : Link) where
   answers : (o : Outcome State) → OpenCore o l a l' → Accepts a o

@@ -8,7 +8,6 @@ use Rattle.timing.specs.declared.Record.{Record}
 use Rattle.session.specs.State.{Outcome, refused, done}
 use Rattle.session.specs.Reading.{Reads, reading}
 use Rattle.control.specs.declared.Link.{Link}
-use Rattle.answers.specs.declared.Count.{Count}
 use Rattle.promises.specs.Parts.{Parts, lent_lengths}
 use Rattle.promises.specs.Outcomes.{reads_with, reads}
 use Rattle.promises.specs.Answers.{Counts}
@@ -16,6 +15,7 @@ use Rattle.promises.specs.AnswerLaws.{counts_number}
 use Rattle.promises.specs.Promises.{ReadPromise, ReadLeaves}
 use Rattle.promises.specs.Cores.{ReadCore}
 use Rattle.from_cores.proofs.Gathered.{Gathers, outcome_in, stands_in}
+use Rattle.answers.specs.Answers.{Count}
 
 module _ (l : Link) (p : Parts) (records : List Record) (n : ℕ) (g : Gathers l p records n) (buffer : List ℕ) (a : Count) (l' : Link)
     (buffer' : List ℕ) where

@@ -7,7 +7,6 @@ use Rattle.timing.specs.declared.Record.{Record}
 use Rattle.session.specs.State.{Outcome, refused, done}
 use Rattle.session.specs.Sending.{Sends, sending}
 use Rattle.control.specs.declared.Link.{Link}
-use Rattle.answers.specs.declared.Answer.{Answer}
 use Rattle.promises.specs.Parts.{Parts, lent_lengths, parts_of}
 use Rattle.promises.specs.Outcomes.{sends_with, sends}
 use Rattle.promises.specs.Answers.{Accepts}
@@ -15,6 +14,7 @@ use Rattle.promises.specs.AnswerLaws.{accepts_number}
 use Rattle.promises.specs.Promises.{SendPromise, SendLeaves}
 use Rattle.promises.specs.Cores.{SendCore}
 use Rattle.from_cores.proofs.Gathered.{Gathers, outcome_in, stands_in}
+use Rattle.answers.specs.Answers.{Answer}
 
 module _ (l : Link) (p : Parts) (records : List Record) (n : ℕ) (g : Gathers l p records n) (a : Answer) (l' : Link) (pool' : List ℕ) where
   -- the parts after it

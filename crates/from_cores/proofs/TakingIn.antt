@@ -16,7 +16,6 @@ use Rattle.session.specs.Valid.{valid}
 use Rattle.control.specs.Views.{Whole, arrays_of}
 use Rattle.control.specs.declared.Link.{Link}
 use Rattle.records.specs.Tables.{slots_in, scattered}
-use Rattle.answers.specs.declared.Answer.{Answer}
 use Rattle.promises.specs.Parts.{Parts, lengths_of, lent_lengths, parts_of, state_in, is_made}
 use Rattle.promises.specs.Outcomes.{takes_in_with, takes_in}
 use Rattle.promises.specs.Answers.{Accepts}
@@ -28,6 +27,7 @@ use Rattle.from_cores.proofs.Gathered.{Gathers, outcome_in}
 use Rattle.from_cores.proofs.Scattered.{SlotsFit, slots_of, puts_nothing, puts_all, table_after, stands_after}
 use Rattle.from_cores.proofs.SlotsAfter.{input_slots}
 use Rattle.from_cores.proofs.Checked.{passed, made_valid, table_long}
+use Rattle.answers.specs.Answers.{Answer}
 
 -- a datagram that is taken in has its segments applied
 taken_slots : (s : State) (pool datagram : List ℕ) (x : Took) → valid s ≡ true → input s pool datagram ≡ done x

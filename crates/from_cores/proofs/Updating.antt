@@ -19,8 +19,6 @@ use Rattle.session.specs.Updating.{Updates, waits, flushes, updating}
 use Rattle.control.specs.Views.{Whole, arrays_of, state_of}
 use Rattle.control.specs.declared.Link.{Link}
 use Rattle.records.specs.Tables.{slots_in, gathered, scattered}
-use Rattle.answers.specs.declared.Count.TheVariants as count
-use Rattle.answers.specs.declared.Update.{Update}
 use Rattle.promises.specs.Parts.{Parts, FlushParts, lengths_of, lent_lengths, parts_of, records_of, state_in, is_made}
 use Rattle.promises.specs.Outcomes.{updates_with, updates}
 use Rattle.promises.specs.Answers.{update_answer}
@@ -34,6 +32,8 @@ use Rattle.from_cores.proofs.SlotsAfter.{flush_slots}
 use Rattle.from_cores.proofs.Checked.{passed, made_valid, table_long, flush_enough}
 use Rattle.from_cores.proofs.Flushing as flush
 use Rattle.from_cores.proofs.Flushing.{same_parts, flush_leaves}
+use Rattle.answers.specs.Answers.{Update}
+use Rattle.std.specs.Prelude.{Ok}
 
 -- 13 does not look at the schedule
 valid_scheduled : (s : State) (x : Schedule) → valid s ≡ true → valid (with_schedule s x) ≡ true
@@ -67,7 +67,7 @@ module _ (t : ℕ) (l : Link) (p : Parts) (f : FlushParts) (a : Update) (b : Put
   left_in : (records : List Record) (n : ℕ) → Gathers l p records n → (o : Outcome Updates) → Left records o → Left (records_of l p) o
   left_in records n g (refused q) h = h
   left_in records n g (done (flushes x)) h =
-      (h.0, flush.left_in t l p f (count.Of (length x.datagrams)) b l' f' records n g (done x) h.1)
+      (h.0, flush.left_in t l p f (Ok (length x.datagrams)) b l' f' records n g (done x) h.1)
   left_in records n g (done (waits s)) h =
       let stands = stands_in l p records n g l' s h.slots h.counts h.state in
       record {

@@ -4,12 +4,10 @@
 use Rattle.std.specs.Prelude.{List, ℕ}
 use Rattle.control.specs.Views.{Whole, arrays_of}
 use Rattle.control.specs.declared.Link.{Link}
-use Rattle.answers.specs.declared.Answer.{Answer}
-use Rattle.answers.specs.declared.Count.{Count}
-use Rattle.answers.specs.declared.Update.{Update}
 use Rattle.promises.specs.Parts.{Parts, FlushParts, records_of}
 use Rattle.promises.specs.Outcomes.{takes_in, flushes, updates}
 use Rattle.promises.specs.Cores.{PutBack, InputCore, FlushCore, UpdateCore}
+use Rattle.answers.specs.Answers.{Answer, Count, Update}
 
 pub record InputLeft (datagram : List ℕ) (l : Link) (p : Parts) (a : Answer) (b : PutBack) (l' : Link) (pool' acks' : List ℕ) : Type 0 where
   pub core : InputCore (takes_in l p datagram) l p.receive_pool p.acks a l' b pool' acks'

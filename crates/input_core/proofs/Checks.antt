@@ -28,13 +28,13 @@ use Rattle.control.specs.ViewLaws.{counts}
 use Rattle.control.specs.declared.Link.{Link}
 use Rattle.checking.specs.Verdicts.{Admitted}
 use Rattle.checking.specs.VerdictLaws.{refused_by_lem, passed_by}
-use Rattle.checking.specs.declared.Verdict.{Verdict}
-use Rattle.checking.specs.declared.Verdict.TheVariants.{Passed, Refused}
 use Rattle.promises.specs.Outcomes.{takes_in_with}
 use Rattle.acknowledge.specs.Flights.{sent_in}
 use Rattle.receive.proofs.Starts.{marked_start, sound_start}
 use Rattle.input_core.specs.Taking.{checked_by, flight_of, Hearable}
 use Rattle.input_core.proofs.Takes.{begun, refused_over}
+use Rattle.answers.specs.Answers.{Answer}
+use Rattle.std.specs.Prelude.{Err, Ok}
 
 -- the receive pool and the ack list are long enough
 record LongEnough (m : ℕ) (n : Lengths) : Type 0 where
@@ -53,9 +53,9 @@ long_enough_lem m n e =
     record { receive = h.0.0.1; acks = h.1 }
 
 -- v is the verdict on the block l with parts of these lengths
-module _ (l : Link) (records : List Record) (n : Lengths) (pool acks send marks : List ℕ) (long : Bool) (v : Verdict)
+module _ (l : Link) (records : List Record) (n : Lengths) (pool acks send marks : List ℕ) (long : Bool) (v : Answer)
     (e : long ≡ enough (mss l.settings) n) (a : Admitted long l records send marks v) where
-  pub admits : (s : List ℕ) → v ≡ Passed → takes_in_with l records acks n pool s ≡ input (state_of l records acks) pool s
+  pub admits : (s : List ℕ) → v ≡ Ok tt → takes_in_with l records acks n pool s ≡ input (state_of l records acks) pool s
   unfolding takes_in_with
   admits s r = let p = passed_by long (block_valid l records acks) v (a.verdict acks) r in rw (← e, p.long_enough_lem, p.valid_block)
 
@@ -66,22 +66,22 @@ module _ (l : Link) (records : List Record) (n : Lengths) (pool acks send marks 
     unfolding takes_in_with
     refuses q r = go v refl w
       where
-        go : (u : Verdict) → v ≡ u → x ≡ checked_by u (counted 0 (parse l.settings.conv m s))
+        go : (u : Answer) → v ≡ u → x ≡ checked_by u (counted 0 (parse l.settings.conv m s))
             → takes_in_with l records acks n pool s ≡ refused q
-        go Passed p y = admits s p ∙ refused_over l.settings m s x y d l records acks pool q refl r
-        go (Refused z) p y =
+        go (Ok tt) p y = admits s p ∙ refused_over l.settings m s x y d l records acks pool q refl r
+        go (Err z) p y =
             let same : z ≡ q = cc in
             rw (← e) (refused_by_lem _ long (block_valid l records acks) v q (a.verdict acks) (rw same at p))
 
-    pub passes : (k : ℕ) → x ≡ Ok k → (v ≡ Passed) × Begun l.settings.conv (mss l.settings) s k
+    pub passes : (k : ℕ) → x ≡ Ok k → (v ≡ Ok tt) × Begun l.settings.conv (mss l.settings) s k
     passes k r = go v refl w
       where
-        go : (u : Verdict) → v ≡ u → x ≡ checked_by u (counted 0 (parse l.settings.conv m s))
-            → (v ≡ Passed) × Begun l.settings.conv (mss l.settings) s k
-        go Passed p y = (p, begun l.settings m s x y d k r)
-        go (Refused z) p y = absurd (let same : ◌≡◌ {A = ℕ} 0 1 = cc in omega arith)
+        go : (u : Answer) → v ≡ u → x ≡ checked_by u (counted 0 (parse l.settings.conv m s))
+            → (v ≡ Ok tt) × Begun l.settings.conv (mss l.settings) s k
+        go (Ok tt) p y = (p, begun l.settings m s x y d k r)
+        go (Err z) p y = absurd (let same : ◌≡◌ {A = ℕ} 0 1 = cc in omega arith)
 
-  pub hearable : Whole (arrays_of l) → v ≡ Passed → n.receive ≡ length pool → n.acks ≡ length acks → Hearable l records marks acks pool
+  pub hearable : Whole (arrays_of l) → v ≡ Ok tt → n.receive ≡ length pool → n.acks ≡ length acks → Hearable l records marks acks pool
   unfolding block_valid counts_fit state_of
   hearable whole r many wide =
       let p = passed_by long (block_valid l records acks) v (a.verdict acks) r in

@@ -15,7 +15,6 @@ use Rattle.datagram.specs.Datagrams.{Checked, parse, counted}
 use Rattle.datagram.specs.StepLaws.{Begun, accepted, was_refused}
 use Rattle.session.specs.State.{Sending, Outcome, refused, done}
 use Rattle.session.specs.Input.{Receiver, Took, all_by_receiving, applied, input}
-use Rattle.answers.specs.declared.Answer.TheVariants as answer
 use Rattle.control.specs.Views.{arrays, link_of, state_of, counts_fit, pairs, receiving_of}
 use Rattle.control.specs.ViewLaws.{counts}
 use Rattle.control.specs.declared.Link.{Link}
@@ -26,11 +25,12 @@ use Rattle.acknowledge.specs.Flights as sending
 use Rattle.receive.specs.Halves as receiving
 use Rattle.receive.proofs.Starts.{receiver_view}
 use Rattle.input_core.specs.Taking.{flight_of, receiver_in, grown_from}
+use Rattle.std.specs.Prelude.{Err, Ok}
 
 -- ---- refused
 
 pub takes_nothing : (o : Outcome Took) (l : Link) (pool acks words : List ℕ) (records : List Record) (q : Refusal) → o ≡ refused q
-    → InputCore o l pool acks (answer.Refused q) l (record { words = words; changed = 0; records = records }) pool acks
+    → InputCore o l pool acks (Err q) l (record { words = words; changed = 0; records = records }) pool acks
 takes_nothing o l pool acks words records q e =
     rw e (record { answer = refl; link = refl; puts = refl; pool_same = refl; acks_same = refl })
 
@@ -93,7 +93,7 @@ module _ (l : Link) (records : List Record) (pool acks s : List ℕ) (f : Flight
         rw (h.queue, le-leb _ _ k.queued, le-leb _ _ h.fits, le-leb _ _ u.ready, le-leb _ _ u.waiting, le-leb _ _ u.noted)
 
     pub takes_all : counts_fit l ≡ true → length acks' ≡ length acks → (g : Flight) → g ≡ grown_from l.settings l.flight f
-        → InputCore (input (state_of l records acks) pool s) l pool acks answer.Accepted
+        → InputCore (input (state_of l records acks) pool s) l pool acks (Ok tt)
         (link_of l.settings g a l.clock (arrays l.queued words transmissions ready waiting numbers))
         (record { words = words; changed = g.outstanding; records = records' }) pool' acks'
     takes_all e long g q =

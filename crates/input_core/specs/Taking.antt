@@ -1,13 +1,11 @@
 -- Taking in a datagram over the block in place: what the checks of 7 and 13 have established, and what the call leaves. Definitions.
 -- Assumes nothing.
-use Rattle.std.specs.Prelude.{◌≡◌, Err, true, List, ℕ}
+use Rattle.std.specs.Prelude.{◌≡◌, true, List, ℕ, Err, Ok}
 use Rattle.protocol.specs.Ranges.{mss}
 use Rattle.protocol.specs.declared.Settings.{Settings}
 use Rattle.congestion.specs.Congestions.{after_datagram, Growable}
 use Rattle.timing.specs.declared.Record.{Record}
 use Rattle.datagram.specs.Datagrams.{Checked}
-use Rattle.checking.specs.declared.Verdict.{Verdict}
-use Rattle.checking.specs.declared.Verdict.TheVariants as verdict
 use Rattle.session.specs.State.{Outcome}
 use Rattle.session.specs.Input.{Took}
 use Rattle.control.specs.Views.{Arrays, arrays_of, link_of, Whole, counts_fit}
@@ -20,11 +18,12 @@ use Rattle.acknowledge.specs.Flights.{View, view, InOrder}
 use Rattle.receive.specs.Halves.{Half, half_of, Sound}
 use Rattle.receive.specs.Pushes.{Marked}
 use Rattle.input_core.specs.declared.Taken.{Taken}
+use Rattle.answers.specs.Answers.{Answer}
 
 -- what the checks of 7 and 13 say, then those of the datagram
-abbrev pub checked_by : Verdict → Checked → Checked
-checked_by verdict.Passed x = x
-checked_by (verdict.Refused q) x = Err q
+abbrev pub checked_by : Answer → Checked → Checked
+checked_by (Ok tt) x = x
+checked_by (Err q) x = Err q
 
 -- the segments in flight of a block, and its receiving half
 abbrev pub flight_of : Link → List Record → View

@@ -1,6 +1,6 @@
 -- What the lists of the control block hold. Definitions.
 -- Assumes nothing.
-use Rattle.std.specs.Prelude.{◌≡◌, List, ℕ, ◌≤◌, take}
+use Rattle.std.specs.Prelude.{◌≡◌, List, ℕ, ◌≤◌, ◌/◌, ◌%◌, take}
 use Rattle.lists.specs.declared.Held.{Held}
 use Rattle.lists.specs.declared.Waiting.{Waiting}
 use Rattle.lists.specs.declared.Outstanding.{Outstanding}
@@ -8,6 +8,10 @@ use Rattle.lists.specs.declared.Sent.{Sent}
 use Rattle.lists.specs.declared.HeldList.{HeldList}
 use Rattle.lists.specs.declared.WaitingList.{WaitingList}
 use Rattle.lists.specs.declared.OutstandingList.{OutstandingList}
+
+-- a held segment as one word of 32 bits: slot and fragment number of 8 bits, length of 16 bits
+abbrev pub unpack : ℕ → Held
+unpack w = record { slot = w % 256; len = w / 65536; fragment = w / 256 % 256 }
 
 -- the front of an array, up to a count: what stands past it is not state
 abbrev pub list_of : {A : Type 0} → List A → ℕ → List A

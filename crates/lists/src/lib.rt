@@ -2,6 +2,9 @@
 // in list order, up to its count; what stands past the count is not state.
 #![tactic(auto)]
 
+ghost use Rattle.std.specs.Prelude.{◌≡◌, ◌<◌};
+ghost use Rattle.lists.specs.Views.{unpack};
+
 use timing::Record;
 
 // A segment held in a slot of a pool: its slot, its length in bytes and its fragment number.
@@ -11,6 +14,32 @@ pub struct Held {
     pub slot: u16,
     pub len: u16,
     pub fragment: u8,
+}
+
+// The segment that a word stands for.
+impl From<u32> for Held {
+    ghost from_gives = { λ word held. held ≡ unpack word };
+
+    fn from(word: u32) -> Held {
+        Held {
+            slot: (word % 256) as u16,
+            len: (word / 65536) as u16,
+            fragment: (word / 256 % 256) as u8,
+        }
+    }
+}
+
+impl Held {
+    // The segment as one word. Its slot is below 256.
+    pub fn word(self) -> u32
+        requires { self.slot < 256 }
+        ensures { unpack result ≡ self }
+    {
+        let slot = self.slot as u32;
+        let fragment = self.fragment as u32;
+        let len = self.len as u32;
+        slot + 256 * fragment + 65536 * len
+    }
 }
 
 // A segment received and not yet in order.

@@ -72,8 +72,8 @@ pub fn send(
         a link.new
         (parts_of send_pool.new receive_pool.now table.now acks.now)) result }
 {
-    let mut send_marks = marks::none_to_send();
-    let mut receive_marks = marks::none();
+    let mut send_marks = [0; 128];
+    let mut receive_marks = [0; 256];
     let sound = block_check::sound(link, &mut send_marks, &mut receive_marks);
     let settings = link.settings;
     let flight = link.flight;
@@ -121,8 +121,8 @@ pub fn read(
         (parts_of send_pool.now receive_pool.now table.now acks.now)
         buffer.new) result }
 {
-    let mut send_marks = marks::none_to_send();
-    let mut receive_marks = marks::none();
+    let mut send_marks = [0; 128];
+    let mut receive_marks = [0; 256];
     let sound = block_check::sound(link, &mut send_marks, &mut receive_marks);
     let settings = link.settings;
     let flight = link.flight;

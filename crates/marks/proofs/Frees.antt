@@ -50,10 +50,6 @@ pub free_more : (m : ℕ) (marks : List ℕ) (k total : ℕ) → m ≤ 256 → t
 free_more m marks k total w e h n =
     e ∙ first_more (is_marked marks) 256 k (omega (arith, slot_low m marks k (rw (← e) h))) (rw (ne_eqb _ _ n) refl)
 
-pub further : (m : ℕ) (marks : List ℕ) (k total : ℕ) → m ≤ 256 → total ≡ next_free marks k → total < m → (get_or marks k 0 ≡ 0 → ⊥)
-    → k + 1 < m
-further m marks k total w e h n = let q = free_more m marks k total w e h n in slot_low m marks (k + 1) (rw (← q) h)
-
 pub free_stop : (m : ℕ) (marks : List ℕ) (k total : ℕ) → m ≤ 256 → total ≡ next_free marks k → total < m → get_or marks k 0 ≡ 0 → k ≡ total
 free_stop m marks k total w e h n =
     sym (e ∙ first_stop (is_marked marks) 256 k (omega (arith, slot_low m marks k (rw (← e) h))) (rw (eq-eqb _ _ n) refl))

@@ -4,10 +4,10 @@
 // search for the next free slot goes on behind the last one taken.
 #![tactic(auto)]
 
-ghost use Rattle.std.specs.Prelude.{◌≡◌, true, ◌≤◌, ◌<◌, ◌%◌, length};
+ghost use Rattle.std.specs.Prelude.{◌≡◌, true, ◌≤◌, ◌<◌, ◌%◌, map};
 ghost use Rattle.slots.specs.Slots.{slots_of, all_below};
-ghost use Rattle.words.specs.Words.{held_in};
-ghost use Rattle.marks.specs.Marks.{Marks, none, none_to_send, next_free};
+ghost use Rattle.words.specs.Words.{unpack};
+ghost use Rattle.marks.specs.Marks.{Marks, next_free};
 
 // The slot of a word.
 fn slot_of(word: u32) -> usize
@@ -16,96 +16,29 @@ fn slot_of(word: u32) -> usize
     (word % 256) as usize
 }
 
-// No send slot is marked.
-pub fn none_to_send() -> [u8; 128]
-    ensures { result ≡ none_to_send }
+// The slots of words are marked. Whether none of them was marked before, and none stands twice.
+pub fn mark<const S: usize>(marks: &mut [u8; S], words: &[u32]) -> bool
+    requires { all_below S (slots_of (map unpack words.now)) ≡ true }
+    ensures { Marks S marks.old (slots_of (map unpack words.now)) marks.new result }
 {
-    [0; 128]
-}
-
-// No receive slot is marked.
-pub fn none() -> [u8; 256]
-    ensures { result ≡ none }
-{
-    [0; 256]
-}
-
-// The slots of n words are marked. Whether none of them was marked before, and none stands twice.
-pub fn mark(marks: &mut [u8; 256], words: &[u32; 128], n: usize) -> bool
-    requires { (length marks.old ≡ 256) × (length words.now ≡ 128) × (n ≤ 128) }
-    ensures { Marks 256 marks.old (slots_of (held_in words.now n)) marks.new result }
-{
-    let mut twice: u8 = 0;
-    let mut i: usize = 0;
-    while i < n {
-        let slot = slot_of(words[i]);
-        twice = twice | marks[slot];
-        marks[slot] = 1;
-        i += 1;
+    let mut once = true;
+    for word in words {
+        let mark = &mut marks[slot_of(*word)];
+        once = once & (*mark == 0);
+        *mark = 1;
     }
-    twice == 0
+    once
 }
 
-// The same in the send pool, for the words of queued segments: their slots are below 128.
-pub fn mark_queued(marks: &mut [u8; 128], words: &[u32; 128], n: usize) -> bool
-    requires { (length marks.old ≡ 128) × (length words.now ≡ 128) × (n ≤ 128)
-        × (all_below 128 (slots_of (held_in words.now n)) ≡ true) }
-    ensures { Marks 128 marks.old (slots_of (held_in words.now n)) marks.new result }
-{
-    let mut twice: u8 = 0;
-    let mut i: usize = 0;
-    while i < n {
-        let slot = slot_of(words[i]);
-        twice = twice | marks[slot];
-        marks[slot] = 1;
-        i += 1;
-    }
-    twice == 0
-}
-
-// The same for the words of outstanding segments.
-pub fn mark_outstanding(marks: &mut [u8; 128], words: &[u32; 32], n: usize) -> bool
-    requires { (length marks.old ≡ 128) × (length words.now ≡ 32) × (n ≤ 32)
-        × (all_below 128 (slots_of (held_in words.now n)) ≡ true) }
-    ensures { Marks 128 marks.old (slots_of (held_in words.now n)) marks.new result }
-{
-    let mut twice: u8 = 0;
-    let mut i: usize = 0;
-    while i < n {
-        let slot = slot_of(words[i]);
-        twice = twice | marks[slot];
-        marks[slot] = 1;
-        i += 1;
-    }
-    twice == 0
-}
-
-// The first slot from `from` on that is not marked; there is one. It is often `from`, which is looked at first: the compiler makes a call of the loop.
-pub fn free_from(marks: &[u8; 256], from: usize) -> usize
-    requires { (length marks.now ≡ 256) × (from ≤ 256) × (next_free marks.now from < 256) }
+// The first slot from `from` on that is not marked; there is one.
+pub fn free_from<const S: usize>(marks: &[u8; S], from: usize) -> usize
+    requires { (S ≤ 256) × (next_free marks.now from < S) }
     ensures { result ≡ next_free marks.now from }
 {
-    if marks[from] == 0 {
-        return from;
+    for slot in from..S {
+        if marks[slot] == 0 {
+            return slot;
+        }
     }
-    let mut slot = from;
-    while marks[slot] != 0 {
-        slot += 1;
-    }
-    slot
-}
-
-// The same in the send pool.
-pub fn free_to_send(marks: &[u8; 128], from: usize) -> usize
-    requires { (length marks.now ≡ 128) × (from ≤ 256) × (next_free marks.now from < 128) }
-    ensures { result ≡ next_free marks.now from }
-{
-    if marks[from] == 0 {
-        return from;
-    }
-    let mut next = from;
-    while marks[next] != 0 {
-        next += 1;
-    }
-    next
+    S
 }

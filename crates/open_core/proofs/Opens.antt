@@ -13,19 +13,19 @@ use Rattle.lists.specs.Joining.{joined}
 use Rattle.sizes.specs.Sizes.{enough}
 use Rattle.sizes.specs.declared.Lengths.{Lengths}
 use Rattle.session.specs.Opening.{opening, opened}
-use Rattle.answers.specs.declared.Answer.TheVariants.{Accepted, Refused}
 use Rattle.words.specs.Words.{paired}
 use Rattle.control.specs.declared.Link.{Link}
 use Rattle.control.specs.Views.{Arrays, link_of, pairs, state_of, counts_fit}
 use Rattle.promises.specs.Cores.{OpenCore}
 use Rattle.open_core.specs.declared.Opened.{Opened}
 use Rattle.open_core.specs.Fresh.{IsFresh}
+use Rattle.std.specs.Prelude.{Err, Ok}
 
 -- the numbers of a link just opened
 abbrev made : Settings → Opened
 made c =
     record {
-      answer = Accepted;
+      answer = Ok tt;
       settings = c;
       flight = record {
         una = 0;
@@ -67,11 +67,11 @@ module _ (c : Settings) (n : Lengths) (l : Link) (fit : Bool) (e : fit ≡ in_ra
     unfolding opening
     accepts u o i x = rw (in_range_lem, sym f ∙ u) (record { answer = i.answer; counts = i.counts x; state = i.state x })
 
-    pub short : long ≡ false → OpenCore (opening c n) l (Refused ShortPart) l
+    pub short : long ≡ false → OpenCore (opening c n) l (Err ShortPart) l
     unfolding opening
     short u = rw (in_range_lem, sym f ∙ u) (refl, refl)
 
-  pub out_of_range : not fit ≡ true → OpenCore (opening c n) l (Refused SettingOutOfRange) l
+  pub out_of_range : not fit ≡ true → OpenCore (opening c n) l (Err SettingOutOfRange) l
   unfolding opening
   out_of_range t = rw (sym e ∙ failed fit t) (refl, refl)
     where

@@ -17,7 +17,7 @@ use timing::{ProbeClock, RoundTrip};
 // The answer, and the block's numbers after it.
 #[derive(Clone, Copy)]
 pub struct Opened {
-    pub answer: Answer,
+    pub answer: Answer<()>,
     pub settings: Settings,
     pub flight: Flight,
     pub arrival: Arrival,
@@ -59,7 +59,7 @@ fn fresh(settings: Settings) -> Opened
         updated: 0,
     };
     Opened {
-        answer: Answer::Accepted,
+        answer: Ok(()),
         settings,
         flight,
         arrival,
@@ -91,7 +91,7 @@ pub fn open(
     };
     if !new.in_range() {
         return Opened {
-            answer: Answer::Refused(Refusal::SettingOutOfRange),
+            answer: Err(Refusal::SettingOutOfRange),
             settings,
             flight,
             arrival,
@@ -102,7 +102,7 @@ pub fn open(
         fresh(new)
     } else {
         Opened {
-            answer: Answer::Refused(Refusal::ShortPart),
+            answer: Err(Refusal::ShortPart),
             settings,
             flight,
             arrival,

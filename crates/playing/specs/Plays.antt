@@ -2,15 +2,10 @@
 -- b is the bench before the command, s, r and a are send pool, receive pool and ack list, and text is where the answer goes;
 -- x is what is given, and s', r', a' and text' are the parts and the text after it.
 -- Assumes nothing.
-use Rattle.std.specs.Prelude.{◌≡◌, true, false, List, ◌++◌, ℕ, ◌-◌, ◌≤◌, ◌<◌, min, length, take, drop, get_or, set, replicate}
+use Rattle.std.specs.Prelude.{◌≡◌, true, false, List, ◌++◌, ℕ, ◌-◌, ◌≤◌, ◌<◌, min, length, take, drop, get_or, set, replicate, Err, None, Ok, Some}
 use Rattle.protocol.specs.Protocol.{output_least, lengths_least}
 use Rattle.protocol.specs.declared.Settings.{Settings}
 use Rattle.protocol.specs.declared.Refusal.TheVariants.{InvalidBlock}
-use Rattle.answers.specs.declared.Count.{Count}
-use Rattle.answers.specs.declared.Count.TheVariants.{Of, Refused}
-use Rattle.answers.specs.declared.Update.{Update}
-use Rattle.answers.specs.declared.Update.TheVariants as update
-use Rattle.answers.specs.declared.Time.{Time}
 use Rattle.control.specs.declared.Link.{Link}
 use Rattle.notation.specs.Ascii.{ascii}
 use Rattle.notation.specs.Puts.{Put}
@@ -27,6 +22,7 @@ use Rattle.script.specs.Commands.{Parsed}
 use Rattle.script.specs.declared.Command.{Command}
 use Rattle.script.specs.declared.Command.TheVariants as command
 use Rattle.playing.specs.declared.Played.{Played}
+use Rattle.answers.specs.Answers.{Count, Update, Time}
 
 -- the bench is b', and the line stands at the start of the text
 pub record Says (b' : Bench) (line text : List ℕ) (x : Played) (text' : List ℕ) : Type 0 where
@@ -63,8 +59,8 @@ pub record PlaysInput (datagram : List ℕ) (b : Bench) (s r a text : List ℕ) 
 
 -- the datagrams of a flush, one a line, and their count
 abbrev pub flush_lines : List ℕ → List ℕ → Count → List ℕ
-flush_lines output lengths (Of n) = datagram_lines output (take n lengths) ++ count_line (Of n)
-flush_lines output lengths (Refused e) = refusal_line e
+flush_lines output lengths (Ok n) = datagram_lines output (take n lengths) ++ count_line (Ok n)
+flush_lines output lengths (Err e) = refusal_line e
 
 -- output and lengths are zero before it
 pub record PlaysFlush (t : ℕ) (b : Bench) (s r a text : List ℕ) (x : Played) (text' : List ℕ) : Type 0 where
@@ -76,9 +72,9 @@ pub record PlaysFlush (t : ℕ) (b : Bench) (s r a text : List ℕ) (x : Played)
 
 -- of an update: the same where it flushes; where it does not, `ok` alone
 abbrev pub update_lines : List ℕ → List ℕ → Update → List ℕ
-update_lines output lengths update.Waited = ascii "ok\n"
-update_lines output lengths (update.Wrote n) = flush_lines output lengths (Of n)
-update_lines output lengths (update.Refused e) = refusal_line e
+update_lines output lengths (Ok None) = ascii "ok\n"
+update_lines output lengths (Ok (Some n)) = flush_lines output lengths (Ok n)
+update_lines output lengths (Err e) = refusal_line e
 
 pub record PlaysUpdate (t : ℕ) (b : Bench) (s r a text : List ℕ) (x : Played) (text' : List ℕ) : Type 0 where
   pub done : Updated
@@ -93,8 +89,8 @@ pub record PlaysCheck (t : ℕ) (b : Bench) (s r a text : List ℕ) (x : Played)
   pub says : Says (still b) (time_line time) text x text'
 
 abbrev pub read_line : List ℕ → Count → List ℕ
-read_line buffer (Of n) = bytes_line (ascii "message ") (take n buffer)
-read_line buffer (Refused e) = refusal_line e
+read_line buffer (Ok n) = bytes_line (ascii "message ") (take n buffer)
+read_line buffer (Err e) = refusal_line e
 
 -- the buffer is zero before it
 pub record PlaysRead (room : ℕ) (b : Bench) (s r a text : List ℕ) (x : Played) (text' : List ℕ) : Type 0 where

@@ -1,7 +1,7 @@
 // What each command of a script does, and its answer as text.
 #![tactic(auto)]
 
-ghost use Rattle.std.specs.Prelude.{◌≡◌, min, take, set, ◌++◌};
+ghost use Rattle.std.specs.Prelude.{◌≡◌, min, take, set, ◌++◌, Ok};
 ghost use Rattle.notation.specs.Ascii.{ascii};
 ghost use Rattle.transcript.specs.Lines.{bytes_line, refusal_line, answer_line, count_line, datagram_lines, state_line, held_line};
 ghost use Rattle.bench_calls.specs.BenchPromises.{after};
@@ -10,7 +10,6 @@ ghost use Rattle.playing.specs.Plays.{PlaysInput, PlaysFlush, PlaysRead, PlaysSi
 ghost use Rattle.playing.specs.Plays.{PlaysPoke, PlaysHold, PlaysTool, PlaysUnopened, PlaysOnLink, settings_of, Plays};
 ghost use Rattle.playing.specs.Plays.{PlaysLine};
 
-use answers::{Answer, Count, Update};
 use bench::Bench;
 use bench_calls::Answered;
 use notation::put;
@@ -146,11 +145,11 @@ fn input(
 
 // The datagrams of a flush, and their count.
 fn flushed(bench: Bench, packed: &[u8], lengths: &[u16], n: usize, text: &mut [u8]) -> Played
-    ensures { Says bench (datagram_lines packed.now (take n lengths.now) ++ count_line (Count.Of n))
+    ensures { Says bench (datagram_lines packed.now (take n lengths.now) ++ count_line (Ok n))
         text.old result text.new }
 {
     let at = transcript::datagrams(text, 0, packed, lengths, n);
-    let len = transcript::count(text, at, Count::Of(n));
+    let len = transcript::count(text, at, Ok(n));
     Played { bench, len }
 }
 
@@ -186,8 +185,8 @@ fn flush(
     let after = done.bench;
     let answer = done.answer;
     match answer {
-        Count::Of(n) => flushed(after, &output, &lengths, n, text),
-        Count::Refused(r) => refused(after, r, text),
+        Ok(n) => flushed(after, &output, &lengths, n, text),
+        Err(r) => refused(after, r, text),
     }
 }
 
@@ -195,7 +194,7 @@ fn flush(
 fn waited(bench: Bench, text: &mut [u8]) -> Played
     ensures { Ok bench text.old result text.new }
 {
-    let len = transcript::answer(text, 0, Answer::Accepted);
+    let len = transcript::answer(text, 0, Ok(()));
     Played { bench, len }
 }
 
@@ -224,9 +223,9 @@ fn update(
     let after = done.bench;
     let answer = done.answer;
     match answer {
-        Update::Waited => waited(after, text),
-        Update::Wrote(n) => flushed(after, &output, &lengths, n, text),
-        Update::Refused(r) => refused(after, r, text),
+        Ok(None) => waited(after, text),
+        Ok(Some(n)) => flushed(after, &output, &lengths, n, text),
+        Err(r) => refused(after, r, text),
     }
 }
 
@@ -279,8 +278,8 @@ fn read(
     let after = done.bench;
     let answer = done.answer;
     match answer {
-        Count::Of(n) => message(after, &buffer, n, text),
-        Count::Refused(r) => refused(after, r, text),
+        Ok(n) => message(after, &buffer, n, text),
+        Err(r) => refused(after, r, text),
     }
 }
 
@@ -317,7 +316,7 @@ fn show(
 fn ok(bench: Bench, text: &mut [u8]) -> Played
     ensures { Ok (still bench) text.old result text.new }
 {
-    let len = transcript::answer(text, 0, Answer::Accepted);
+    let len = transcript::answer(text, 0, Ok(()));
     unchanged(bench, len)
 }
 

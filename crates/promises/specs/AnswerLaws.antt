@@ -1,15 +1,9 @@
 -- An answer that fits its outcome has the outcome's number.
 -- Assumes nothing.
-use Rattle.std.specs.Prelude.{◌≡◌, ℕ}
+use Rattle.std.specs.Prelude.{◌≡◌, ℕ, Err, Ok}
 use Rattle.std.proofs.Common.{ap}
 use Rattle.session.specs.State.{Outcome, refused, done}
 use Rattle.session.specs.Updating.{Updates, waits, flushes}
-use Rattle.answers.specs.declared.Answer.{Answer}
-use Rattle.answers.specs.declared.Count.{Count}
-use Rattle.answers.specs.declared.Count.TheVariants as count
-use Rattle.answers.specs.declared.Update.{Update}
-use Rattle.answers.specs.declared.Time.{Time}
-use Rattle.answers.specs.declared.Time.TheVariants as time
 use Rattle.promises.specs.Answers.{
   Accepts,
   Counts,
@@ -22,6 +16,7 @@ use Rattle.promises.specs.Answers.{
   update_number,
   time_number,
 }
+use Rattle.answers.specs.Answers.{Answer, Count, Update, Time}
 
 pub accepts_number : {A : Type 0} (a : Answer) (o : Outcome A) → Accepts a o → answer_number a ≡ outcome_number o
 accepts_number a (refused r) e = ap answer_number e
@@ -37,9 +32,9 @@ update_number_lem a (done (waits s)) e = ap update_number e
 update_number_lem a (done (flushes x)) e = ap update_number e
 
 pub count_number_lem : (a : Count) (o : Outcome ℕ) → count_outcome a ≡ o → count_number a ≡ outcome_number o
-count_number_lem (count.Of n) o e = ap outcome_number e
-count_number_lem (count.Refused r) o e = ap outcome_number e
+count_number_lem (Ok n) o e = ap outcome_number e
+count_number_lem (Err r) o e = ap outcome_number e
 
 pub time_number_lem : (a : Time) (o : Outcome ℕ) → time_outcome a ≡ o → time_number a ≡ outcome_number o
-time_number_lem (time.At t) o e = ap outcome_number e
-time_number_lem (time.Refused r) o e = ap outcome_number e
+time_number_lem (Ok t) o e = ap outcome_number e
+time_number_lem (Err r) o e = ap outcome_number e

@@ -1,7 +1,7 @@
 -- What the core of a call leaves: it has the block's numbers and arrays, and 32 records, the first of which are the outstanding segments'.
 -- l is the block before, l' the one after. Definitions.
 -- Assumes nothing.
-use Rattle.std.specs.Prelude.{◌≡◌, ◌⊎◌, true, List, map, ℕ, ◌*◌, length, drop}
+use Rattle.std.specs.Prelude.{◌≡◌, ◌⊎◌, true, List, map, ℕ, ◌*◌, length, drop, Err, None, Ok, Some}
 use Rattle.std.proofs.lemmas.List.Edits.{sets}
 use Rattle.protocol.specs.declared.Refusal.{Refusal}
 use Rattle.timing.specs.declared.Record.{Record}
@@ -13,38 +13,33 @@ use Rattle.session.specs.Flushing.{Flushed, bytes_of_segments}
 use Rattle.session.specs.Reading.{Reads}
 use Rattle.session.specs.Updating.{Updates, waits, flushes}
 use Rattle.packing.specs.Packers.{Output}
-use Rattle.answers.specs.declared.Answer.{Answer}
-use Rattle.answers.specs.declared.Answer.TheVariants as answer
-use Rattle.answers.specs.declared.Count.{Count}
-use Rattle.answers.specs.declared.Count.TheVariants as count
-use Rattle.answers.specs.declared.Update.{Update}
-use Rattle.answers.specs.declared.Update.TheVariants as update
 use Rattle.control.specs.Views.{state_of, counts_fit}
 use Rattle.control.specs.declared.Link.{Link}
 use Rattle.promises.specs.Parts.{outstanding_slots}
+use Rattle.answers.specs.Answers.{Answer, Count, Update}
 
 -- ---- opening: the very block where it is refused; else one of this state, whatever the lent parts hold
 
 pub record Opened (s : State) (a : Answer) (l' : Link) : Type 0 where
-  pub answer : a ≡ answer.Accepted
+  pub answer : a ≡ Ok tt
   pub counts : counts_fit l' ≡ true
   pub state : (records : List Record) (acks : List ℕ) → state_of l' records acks ≡ s
 
 abbrev pub OpenCore : Outcome State → Link → Answer → Link → Type 0
-OpenCore (refused r) l a l' = (a ≡ answer.Refused r) × (l' ≡ l)
+OpenCore (refused r) l a l' = (a ≡ Err r) × (l' ≡ l)
 OpenCore (done s) l a l' = Opened s a l'
 
 -- ---- sending: the send pool and the queued segments alone change
 
 pub record Queued (x : Sends) (l : Link) (records : List Record) (acks : List ℕ) (a : Answer) (l' : Link) (pool' : List ℕ) : Type 0 where
-  pub answer : a ≡ answer.Accepted
+  pub answer : a ≡ Ok tt
   pub counts : counts_fit l' ≡ true
   pub state : state_of l' records acks ≡ x.state
   pub slots : outstanding_slots l' ≡ outstanding_slots l
   pub pool : pool' ≡ x.pool
 
 abbrev pub SendCore : Outcome Sends → Link → List Record → List ℕ → List ℕ → Answer → Link → List ℕ → Type 0
-SendCore (refused r) l records acks pool a l' pool' = (a ≡ answer.Refused r) × (l' ≡ l) × (pool' ≡ pool)
+SendCore (refused r) l records acks pool a l' pool' = (a ≡ Err r) × (l' ≡ l) × (pool' ≡ pool)
 SendCore (done x) l records acks pool a l' pool' = Queued x l records acks a l' pool'
 
 -- ---- what is to be put back into the table: the records of so many outstanding segments, by their words
@@ -67,7 +62,7 @@ pub record PutsAll (l' : Link) (b : PutBack) : Type 0 where
 
 -- a datagram accepted: the state and the pool of the definition; the ack list is as long as it was, and as it was behind its pairs
 pub record TookIn (x : Took) (acks : List ℕ) (a : Answer) (l' : Link) (b : PutBack) (pool' acks' : List ℕ) : Type 0 where
-  pub answer : a ≡ answer.Accepted
+  pub answer : a ≡ Ok tt
   pub counts : counts_fit l' ≡ true
   pub state : state_of l' b.records acks' ≡ x.state
   pub puts : PutsAll l' b
@@ -78,7 +73,7 @@ pub record TookIn (x : Took) (acks : List ℕ) (a : Answer) (l' : Link) (b : Put
 -- refused: the number alone, the very block, pool and ack list
 pub record TookNothing (r : Refusal) (l : Link) (pool acks : List ℕ) (a : Answer) (l' : Link) (b : PutBack) (pool' acks' : List ℕ) : Type 0
   where
-    pub answer : a ≡ answer.Refused r
+    pub answer : a ≡ Err r
     pub link : l' ≡ l
     pub puts : PutsNothing b
     pub pool_same : pool' ≡ pool
@@ -97,7 +92,7 @@ PutsSent before after l' b = PutsAll l' b ⊎ (PutsNothing b × (after ≡ befor
 -- done: it answers the number of its datagrams, which the output and the lengths hold; these segments were outstanding before it
 pub record Flushes (before : List Sent) (x : Flushed) (acks out lengths : List ℕ) (a : Count) (l' : Link) (b : PutBack)
     (out' lengths' : List ℕ) : Type 0 where
-  pub answer : a ≡ count.Of (length x.datagrams)
+  pub answer : a ≡ Ok (length x.datagrams)
   pub counts : counts_fit l' ≡ true
   pub state : state_of l' b.records acks ≡ x.state
   pub puts : PutsSent before x.state.sending.outstanding l' b
@@ -106,7 +101,7 @@ pub record Flushes (before : List Sent) (x : Flushed) (acks out lengths : List �
 -- refused: nothing is written
 pub record NoFlush (r : Refusal) (l : Link) (out lengths : List ℕ) (a : Count) (l' : Link) (b : PutBack) (out' lengths' : List ℕ) : Type 0
   where
-    pub answer : a ≡ count.Refused r
+    pub answer : a ≡ Err r
     pub link : l' ≡ l
     pub puts : PutsNothing b
     pub output : out' ≡ out
@@ -123,7 +118,7 @@ FlushCore (done x) l records acks out lengths a l' b out' lengths' =
 -- it waits: the records of the outstanding segments stay where they are, and nothing is written
 pub record Waits (s : State) (l : Link) (records : List Record) (acks out lengths : List ℕ)
     (a : Update) (l' : Link) (b : PutBack) (out' lengths' : List ℕ) : Type 0 where
-  pub answer : a ≡ update.Waited
+  pub answer : a ≡ Ok None
   pub counts : counts_fit l' ≡ true
   pub state : state_of l' records acks ≡ s
   pub slots : outstanding_slots l' ≡ outstanding_slots l
@@ -135,22 +130,22 @@ pub record Waits (s : State) (l : Link) (records : List Record) (acks out length
 abbrev pub UpdateCore : Outcome Updates → Link → List Record → List ℕ → List ℕ → List ℕ → Update → Link → PutBack → List ℕ
     → List ℕ → Type 0
 UpdateCore (refused r) l records acks out lengths a l' b out' lengths' =
-    (a ≡ update.Refused r) × NoFlush r l out lengths (count.Refused r) l' b out' lengths'
+    (a ≡ Err r) × NoFlush r l out lengths (Err r) l' b out' lengths'
 UpdateCore (done (waits s)) l records acks out lengths a l' b out' lengths' = Waits s l records acks out lengths a l' b out' lengths'
 UpdateCore (done (flushes x)) l records acks out lengths a l' b out' lengths' =
-    (a ≡ update.Wrote (length x.datagrams))
-    × Flushes (state_of l records acks).sending.outstanding x acks out lengths (count.Of (length x.datagrams)) l' b out' lengths'
+    (a ≡ Ok (Some (length x.datagrams)))
+    × Flushes (state_of l records acks).sending.outstanding x acks out lengths (Ok (length x.datagrams)) l' b out' lengths'
 
 -- ---- reading: the receiving half and the buffer alone change
 
 pub record ReadIt (x : Reads) (l : Link) (records : List Record) (acks buffer : List ℕ) (a : Count) (l' : Link) (buffer' : List ℕ) : Type 0
   where
-    pub answer : a ≡ count.Of (length x.bytes)
+    pub answer : a ≡ Ok (length x.bytes)
     pub counts : counts_fit l' ≡ true
     pub state : state_of l' records acks ≡ x.state
     pub slots : outstanding_slots l' ≡ outstanding_slots l
     pub bytes : buffer' ≡ sets buffer 0 x.bytes
 
 abbrev pub ReadCore : Outcome Reads → Link → List Record → List ℕ → List ℕ → Count → Link → List ℕ → Type 0
-ReadCore (refused r) l records acks buffer a l' buffer' = (a ≡ count.Refused r) × (l' ≡ l) × (buffer' ≡ buffer)
+ReadCore (refused r) l records acks buffer a l' buffer' = (a ≡ Err r) × (l' ≡ l) × (buffer' ≡ buffer)
 ReadCore (done x) l records acks buffer a l' buffer' = ReadIt x l records acks buffer a l' buffer'

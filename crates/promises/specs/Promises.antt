@@ -15,10 +15,6 @@ use Rattle.session.specs.Updating.{Updates, waits, flushes}
 use Rattle.control.specs.declared.Link.{Link}
 use Rattle.records.specs.Tables.{scattered}
 use Rattle.packing.specs.Packers.{Output}
-use Rattle.answers.specs.declared.Answer.{Answer}
-use Rattle.answers.specs.declared.Count.{Count}
-use Rattle.answers.specs.declared.Update.{Update}
-use Rattle.answers.specs.declared.Time.{Time}
 use Rattle.promises.specs.Parts.{Parts, FlushParts, Stands, Unchanged}
 use Rattle.promises.specs.Outcomes as outcomes
 use Rattle.promises.specs.Outcomes.{opens, sends, takes_in, reads, tells, shows, updates, checks}
@@ -34,6 +30,7 @@ use Rattle.promises.specs.Answers.{
   update_number,
   time_number,
 }
+use Rattle.answers.specs.Answers.{Answer, Count, Update, Time}
 
 -- the table with the records of a state's outstanding segments at their slots: no other record changes
 abbrev pub table_of : List Record → State → List Record

@@ -26,10 +26,10 @@ use Rattle.control.specs.ViewLaws.{Counts, counts}
 use Rattle.control.specs.declared.Link.{Link}
 use Rattle.checking.specs.Verdicts.{verdict_of}
 use Rattle.checking.specs.VerdictLaws.{Passes, passed_by, refused_by_lem}
-use Rattle.checking.specs.declared.Verdict.{Verdict}
-use Rattle.checking.specs.declared.Verdict.TheVariants.{Passed, Refused}
 use Rattle.promises.specs.Outcomes.{checked}
 use Rattle.read_core.specs.Messages.{Readable}
+use Rattle.answers.specs.Answers.{Answer}
+use Rattle.std.specs.Prelude.{Err, Ok}
 
 -- the receive pool has all its slots
 pool_whole : (m : ℕ) (n : Lengths) → enough m n ≡ true → receive_slots * m ≤ n.receive
@@ -69,14 +69,14 @@ block_counts l e = counts l.flight l.arrival e
 
 -- the verdict v of both checks
 module _ (l : Link) (records : List Record) (acks : List ℕ) (n : Lengths) (long : Bool) (e : long ≡ enough (mss l.settings) n)
-    (v : Verdict) (verdict : (acks : List ℕ) → v ≡ verdict_of long (block_valid l records acks)) where
-  pub passes : v ≡ Passed → Passes (enough (mss l.settings) n) (block_valid l records acks)
+    (v : Answer) (verdict : (acks : List ℕ) → v ≡ verdict_of long (block_valid l records acks)) where
+  pub passes : v ≡ Ok tt → Passes (enough (mss l.settings) n) (block_valid l records acks)
   passes t = let p = passed_by long (block_valid l records acks) v (verdict acks) t in
       record { long_enough_lem = sym e ∙ p.long_enough_lem; valid_block = p.valid_block }
 
-  pub passes_readable : v ≡ Passed → (pool : List ℕ) → n.receive ≡ length pool → Readable l pool
+  pub passes_readable : v ≡ Ok tt → (pool : List ℕ) → n.receive ≡ length pool → Readable l pool
   passes_readable t pool q = let p = passes t in readable_block l records acks n pool p.long_enough_lem p.valid_block q
 
-  pub refuses : {A : Type 0} (own : Outcome A) (r : Refusal) → v ≡ Refused r
+  pub refuses : {A : Type 0} (own : Outcome A) (r : Refusal) → v ≡ Err r
       → checked (enough (mss l.settings) n) (block_valid l records acks) own ≡ refused r
   refuses own r t = rw (← e) (refused_by_lem own long (block_valid l records acks) v r (verdict acks) t)

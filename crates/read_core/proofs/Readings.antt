@@ -15,8 +15,6 @@ use Rattle.timing.specs.declared.Record.{Record}
 use Rattle.session.specs.State.{State, Outcome, refused, done, with_receiving}
 use Rattle.session.specs.Reading.{Reads, reading, telling, readable, front_count, length_of, message, message_size, after_read}
 use Rattle.words.specs.Words.{held_in}
-use Rattle.answers.specs.declared.Count.{Count}
-use Rattle.answers.specs.declared.Count.TheVariants.{Of, Refused}
 use Rattle.control.specs.Views.{pairs, arrays, link_of, state_of, counts_fit}
 use Rattle.control.specs.declared.Arrival.{Arrival}
 use Rattle.control.specs.declared.Clock.{Clock}
@@ -31,6 +29,8 @@ use Rattle.deliver.proofs.Copies.{in_pool_take, joined_length}
 use Rattle.deliver.proofs.Sizes.{fitting_fits}
 use Rattle.read_core.specs.Messages.{Readable, ReadMessage}
 use Rattle.read_core.proofs.Blocks.{block_counts}
+use Rattle.answers.specs.Answers.{Count}
+use Rattle.std.specs.Prelude.{Err, Ok}
 
 -- ---- reading, by the size of the message
 
@@ -56,13 +56,13 @@ read_by_lem s pool room = go (readable s.receiving.ready) (leb (length_of (front
 
 module _ (a : Arrival) (m : ℕ) (ready waiting numbers pool buffer : List ℕ) (found : Count) (o : Outcome ℕ) (e : count_outcome found ≡ o)
   where
-    pub message_taken : (n : ℕ) → found ≡ Of n → (r : Arrival) (ready' waiting' numbers' buffer' : List ℕ)
+    pub message_taken : (n : ℕ) → found ≡ Ok n → (r : Arrival) (ready' waiting' numbers' buffer' : List ℕ)
         → Taken a m ready waiting numbers pool buffer r ready' waiting' numbers' buffer'
-        → ReadMessage o a m ready waiting numbers pool buffer (Of n) r ready' waiting' numbers' buffer'
+        → ReadMessage o a m ready waiting numbers pool buffer (Ok n) r ready' waiting' numbers' buffer'
     message_taken n f r ready' waiting' numbers' buffer' t = rw (← e, f) (refl, t)
 
-    pub message_refused : (q : Refusal) → found ≡ Refused q
-        → ReadMessage o a m ready waiting numbers pool buffer (Refused q) a ready waiting numbers buffer
+    pub message_refused : (q : Refusal) → found ≡ Err q
+        → ReadMessage o a m ready waiting numbers pool buffer (Err q) a ready waiting numbers buffer
     message_refused q f = rw (← e, f) (record {
       answered = refl;
       arrival = refl;
@@ -109,7 +109,7 @@ module _ (c : Settings) (f : Flight) (a : Arrival) (k : Clock) (queued outstandi
   by_outcome ok (done n) e m =
       let l = held_in ready a.ready in
       record {
-        answer = m.0 ∙ ap Of ((fitting_fits l (length buffer) n (sym e)).1 ∙ sym
+        answer = m.0 ∙ ap Ok ((fitting_fits l (length buffer) n (sym e)).1 ∙ sym
             (joined_length (mss c) pool (front_of l) (in_pool_take (mss c) pool (front_count l) l ok.inside)));
         counts = counted m.1 ok.counts;
         state = after_state m.1;
@@ -134,7 +134,7 @@ pub own_read : (l : Link) (records : List Record) (acks buffer : List ℕ) (answ
 own_read l records acks buffer answer l' buffer' long made own p h = rw (p.long_enough_lem, p.valid_block) h
 
 pub not_read : (o : Outcome Reads) (q : Refusal) → o ≡ refused q → (l : Link) (records : List Record) (acks buffer : List ℕ)
-    → ReadCore o l records acks buffer (Refused q) l buffer
+    → ReadCore o l records acks buffer (Err q) l buffer
 not_read o q e l records acks buffer = rw e (refl, refl, refl)
 
 -- ---- telling

@@ -1,6 +1,6 @@
 -- Reading over the parts of a block: before the checks of 7 and 13, and behind them. Definitions.
 -- Assumes nothing.
-use Rattle.std.specs.Prelude.{◌≡◌, true, List, ℕ, ◌<◌, ◌^◌, length}
+use Rattle.std.specs.Prelude.{◌≡◌, true, List, ℕ, ◌<◌, ◌^◌, length, Err, Ok}
 use Rattle.protocol.specs.Ranges.{mss}
 use Rattle.protocol.specs.declared.Refusal.{Refusal}
 use Rattle.timing.specs.declared.Record.{Record}
@@ -9,12 +9,11 @@ use Rattle.words.specs.Words.{held_in}
 use Rattle.control.specs.Views.{counts_fit}
 use Rattle.control.specs.declared.Arrival.{Arrival}
 use Rattle.control.specs.declared.Link.{Link}
-use Rattle.answers.specs.declared.Count.{Count}
-use Rattle.answers.specs.declared.Count.TheVariants.{Of, Refused}
 use Rattle.promises.specs.Parts.{lent_lengths}
 use Rattle.promises.specs.Outcomes.{reads_with}
 use Rattle.promises.specs.Cores.{ReadCore}
 use Rattle.deliver.specs.Messages.{InPool, Taken}
+use Rattle.answers.specs.Answers.{Count}
 
 -- reading, with the lent parts: l is the block before, l' the one after
 abbrev pub ReadOver : Link → List Record → ℕ → List ℕ → List ℕ → List ℕ → List ℕ → Count → Link → List ℕ → Type 0
@@ -31,7 +30,7 @@ pub record Readable (l : Link) (pool : List ℕ) : Type 0 where
 -- a refusal: its number alone, the very half and buffer
 pub record NotRead (q : Refusal) (a : Arrival) (ready waiting numbers buffer : List ℕ) (answer : Count) (r : Arrival)
     (ready' waiting' numbers' buffer' : List ℕ) : Type 0 where
-  pub answered : answer ≡ Refused q
+  pub answered : answer ≡ Err q
   pub arrival : r ≡ a
   pub ready_same : ready' ≡ ready
   pub waiting_same : waiting' ≡ waiting
@@ -45,4 +44,4 @@ abbrev pub ReadMessage : Outcome ℕ → Arrival → ℕ → List ℕ → List �
 ReadMessage (refused q) a m ready waiting numbers pool buffer answer r ready' waiting' numbers' buffer' =
     NotRead q a ready waiting numbers buffer answer r ready' waiting' numbers' buffer'
 ReadMessage (done n) a m ready waiting numbers pool buffer answer r ready' waiting' numbers' buffer' =
-    (answer ≡ Of n) × Taken a m ready waiting numbers pool buffer r ready' waiting' numbers' buffer'
+    (answer ≡ Ok n) × Taken a m ready waiting numbers pool buffer r ready' waiting' numbers' buffer'

@@ -16,8 +16,7 @@ ghost use Rattle.read_core.specs.Messages.{ReadOver, ReadMessage};
 ghost use Rattle.promises.specs.Promises.{place_of, LiesAt, ShowsPart};
 ghost use Rattle.read_core.specs.Places.{front_outcome, PlaceIs};
 
-use answers::Count;
-use checking::Verdict;
+use answers::Answer;
 use control::{Arrival, Clock, Flight};
 use protocol::Settings;
 use sizes::Lengths;
@@ -25,7 +24,7 @@ use sizes::Lengths;
 // The answer of reading, and the receiving half's numbers after it.
 #[derive(Clone, Copy)]
 pub struct Delivered {
-    pub answer: Count,
+    pub answer: Answer<usize>,
     pub arrival: Arrival,
 }
 
@@ -54,15 +53,15 @@ fn read_message(
 {
     let found = deliver::fitting(ready, arrival.ready, buffer.len());
     match found {
-        Count::Of(size) => {
+        Ok(size) => {
             let after = deliver::take(arrival, ready, waiting, numbers, mss, pool, buffer);
             Delivered {
-                answer: Count::Of(size),
+                answer: Ok(size),
                 arrival: after,
             }
         }
-        Count::Refused(r) => Delivered {
-            answer: Count::Refused(r),
+        Err(r) => Delivered {
+            answer: Err(r),
             arrival,
         },
     }
@@ -113,7 +112,7 @@ pub fn read(
     let long = sizes::enough(settings, lent);
     let verdict = checking::judged(long, sound & flown);
     match verdict {
-        Verdict::Passed => {
+        Ok(()) => {
             let mss = settings.mss();
             read_message(
                 arrival,
@@ -125,8 +124,8 @@ pub fn read(
                 buffer,
             )
         }
-        Verdict::Refused(r) => Delivered {
-            answer: Count::Refused(r),
+        Err(r) => Delivered {
+            answer: Err(r),
             arrival,
         },
     }
@@ -150,7 +149,7 @@ pub fn size(
     send_pool: &[u8],
     receive_pool: &[u8],
     acks: &[u32],
-) -> Count
+) -> Answer<usize>
     requires { Whole (arrays queued.now outstanding.now transmissions.now ready.now waiting.now waiting_numbers.now)
         × Flies (link_of settings flight arrival clock (arrays queued.now outstanding.now
         transmissions.now ready.now waiting.now waiting_numbers.now)) flown
@@ -172,8 +171,8 @@ pub fn size(
     let long = sizes::enough(settings, lent);
     let verdict = checking::judged(long, sound & flown);
     match verdict {
-        Verdict::Passed => deliver::front_size(ready, arrival.ready),
-        Verdict::Refused(r) => Count::Refused(r),
+        Ok(()) => deliver::front_size(ready, arrival.ready),
+        Err(r) => Err(r),
     }
 }
 
@@ -235,8 +234,8 @@ pub fn locate(
     let long = sizes::enough(settings, lent);
     let verdict = checking::judged(long, sound & flown);
     match verdict {
-        Verdict::Passed => front_place(settings.mss(), ready, arrival.ready),
-        Verdict::Refused(_r) => Place { start: 0, count: 0 },
+        Ok(()) => front_place(settings.mss(), ready, arrival.ready),
+        Err(_r) => Place { start: 0, count: 0 },
     }
 }
 

@@ -36,10 +36,6 @@ use Rattle.control.specs.declared.Clock.{Clock}
 use Rattle.control.specs.declared.Link.{Link}
 use Rattle.control.specs.Views.{Arrays, link_of, Whole, state_of, counts_fit, block_valid}
 use Rattle.control.specs.ViewLaws.{counts}
-use Rattle.answers.specs.declared.Answer.{Answer}
-use Rattle.answers.specs.declared.Answer.TheVariants.{Refused}
-use Rattle.checking.specs.declared.Verdict.{Verdict}
-use Rattle.checking.specs.declared.Verdict.TheVariants as verdict
 use Rattle.checking.specs.Verdicts.{Checked, verdict_of}
 use Rattle.checking.specs.VerdictLaws.{Passes, refused_by_lem, passed_by}
 use Rattle.checking.proofs.Halves.{send_slots_lem}
@@ -49,6 +45,8 @@ use Rattle.promises.specs.Outcomes.{sends_with}
 use Rattle.promises.specs.Cores.{SendCore}
 use Rattle.send_core.specs.declared.Submitted.{Submitted}
 use Rattle.send_core.specs.Sending.{with_count, Enqueues}
+use Rattle.answers.specs.Answers.{Answer}
+use Rattle.std.specs.Prelude.{Err, Ok}
 
 -- an accepted message changes the queued segments alone
 queued_alone : (s : State) (pool m : List ℕ) (x : Sends) → sending s pool m ≡ done x → x.state ≡ with_queued s x.state.sending.queued
@@ -126,15 +124,15 @@ module _ (s : Settings) (f : Flight) (a : Arrival) (k : Clock) (x : Arrays) (rs 
     pub long_enough_lem : send_slots * mss s ≤ n.send
 
   -- by the lent sizes and the verdict
-  module _ (n : Lengths) (long : Bool) (v : Verdict) (e : long ≡ enough (mss s) n) (g : v ≡ verdict_of long (block_valid link rs acks)) where
+  module _ (n : Lengths) (long : Bool) (v : Answer) (e : long ≡ enough (mss s) n) (g : v ≡ verdict_of long (block_valid link rs acks)) where
     -- refused: nothing changes
-    pub refuses : (r : Refusal) (pool message : List ℕ) → v ≡ verdict.Refused r
-        → SendCore (sends_with link rs acks n pool message) link rs acks pool (Refused r) link pool
+    pub refuses : (r : Refusal) (pool message : List ℕ) → v ≡ Err r
+        → SendCore (sends_with link rs acks n pool message) link rs acks pool (Err r) link pool
     unfolding sends_with
     refuses r pool message q = rw (← e, refused_by_lem (sending (state_of link rs acks) pool message) long (block_valid link rs acks) v r g q)
         (refl, refl, refl)
 
-    module _ (p : v ≡ verdict.Passed) where
+    module _ (p : v ≡ Ok tt) where
       passing : Passes long (block_valid link rs acks)
       passing = passed_by long (block_valid link rs acks) v g p
 

@@ -4,7 +4,6 @@ use Rattle.std.specs.Prelude.{◌≡◌, Bool, List, ℕ}
 use Rattle.timing.specs.declared.Record.{Record}
 use Rattle.session.specs.State.{State}
 use Rattle.session.specs.Sending.{sending}
-use Rattle.answers.specs.declared.Answer.{Answer}
 use Rattle.control.specs.declared.Flight.{Flight}
 use Rattle.control.specs.declared.Link.{Link}
 use Rattle.enqueue.specs.Enqueueing.{PartsOf, Follows}
@@ -12,6 +11,7 @@ use Rattle.promises.specs.Parts.{lent_lengths}
 use Rattle.promises.specs.Outcomes.{sends_with}
 use Rattle.promises.specs.Cores.{SendCore}
 use Rattle.send_core.specs.declared.Submitted.{Submitted}
+use Rattle.answers.specs.Answers.{Answer}
 
 -- the numbers with another count of queued segments
 abbrev pub with_count : Flight → ℕ → Flight

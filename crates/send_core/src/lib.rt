@@ -7,7 +7,6 @@ ghost use Rattle.enqueue.specs.Enqueueing.{Enqueueable};
 ghost use Rattle.send_core.specs.Sending.{Enqueues, SendLeaves};
 
 use answers::Answer;
-use checking::Verdict;
 use control::{Arrival, Clock, Flight};
 use protocol::Settings;
 use sizes::Lengths;
@@ -15,7 +14,7 @@ use sizes::Lengths;
 // The answer, and the sending half's numbers after it.
 #[derive(Clone, Copy)]
 pub struct Submitted {
-    pub answer: Answer,
+    pub answer: Answer<()>,
     pub flight: Flight,
 }
 
@@ -97,11 +96,11 @@ pub fn send(
     let long = sizes::enough(settings, lent);
     let verdict = checking::judged(long, sound & flown);
     match verdict {
-        Verdict::Refused(refusal) => Submitted {
-            answer: Answer::Refused(refusal),
+        Err(refusal) => Submitted {
+            answer: Err(refusal),
             flight,
         },
-        Verdict::Passed => {
+        Ok(()) => {
             let mss = settings.mss();
             let stream = settings.stream == 1;
             send_checked(stream, mss, flight, queued, send_marks, send_pool, message)

@@ -24,15 +24,15 @@ pub fn take_in(
         a link.new
         (parts_of send_pool.now receive_pool.new table.new acks.new)) result }
 {
-    let mut send_marks = marks::none_to_send();
-    let mut receive_marks = marks::none();
+    let mut send_marks = [0; 128];
+    let mut receive_marks = [0; 256];
     let sound = block_check::sound(link, &mut send_marks, &mut receive_marks);
     let settings = link.settings;
     let flight = link.flight;
     let arrival = link.arrival;
     let clock = link.clock;
     let n = results::outstanding_count(flight);
-    let mut records = record_words::none();
+    let mut records = records::none();
     gathering::gather(table, &link.outstanding, n, &mut records);
     let lent = records::table_len(table);
     let taken = input_core::input(

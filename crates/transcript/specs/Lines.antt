@@ -1,14 +1,8 @@
 -- The answers of a replay, line by line. Definitions.
 -- Assumes nothing.
-use Rattle.std.specs.Prelude.{cond, List, [], ◌∷◌, ◌++◌, ℕ, leb, eqb, length, get_or, take, drop}
+use Rattle.std.specs.Prelude.{cond, List, [], ◌∷◌, ◌++◌, ℕ, leb, eqb, length, get_or, take, drop, Err, Ok}
 use Rattle.protocol.specs.Refusals.{number_of}
 use Rattle.protocol.specs.declared.Refusal.{Refusal}
-use Rattle.answers.specs.declared.Answer.{Answer}
-use Rattle.answers.specs.declared.Answer.TheVariants as answer
-use Rattle.answers.specs.declared.Count.{Count}
-use Rattle.answers.specs.declared.Count.TheVariants as count
-use Rattle.answers.specs.declared.Time.{Time}
-use Rattle.answers.specs.declared.Time.TheVariants as time
 use Rattle.timing.specs.declared.Record.{Record}
 use Rattle.lists.specs.declared.Held.{Held}
 use Rattle.lists.specs.declared.Outstanding.{Outstanding}
@@ -18,6 +12,7 @@ use Rattle.control.specs.declared.Link.{Link}
 use Rattle.notation.specs.Ascii.{ascii}
 use Rattle.notation.specs.Decimal.{decimal}
 use Rattle.notation.specs.Hex.{bytes_word}
+use Rattle.answers.specs.Answers.{Answer, Count, Time}
 
 abbrev pub newline : ℕ
 newline = 10
@@ -37,18 +32,18 @@ refusal_line r = number_line (ascii "refused ") (number_of r)
 
 -- of opening, sending and taking in
 unfoldable pub answer_line : Answer → List ℕ
-answer_line answer.Accepted = ascii "ok\n"
-answer_line (answer.Refused r) = refusal_line r
+answer_line (Ok tt) = ascii "ok\n"
+answer_line (Err r) = refusal_line r
 
 -- of a flush, behind its datagrams, and of telling the size
 unfoldable pub count_line : Count → List ℕ
-count_line (count.Of n) = number_line (ascii "ok ") n
-count_line (count.Refused r) = refusal_line r
+count_line (Ok n) = number_line (ascii "ok ") n
+count_line (Err r) = refusal_line r
 
 -- of a check
 unfoldable pub time_line : Time → List ℕ
-time_line (time.At t) = number_line (ascii "ok ") t
-time_line (time.Refused r) = refusal_line r
+time_line (Ok t) = number_line (ascii "ok ") t
+time_line (Err r) = refusal_line r
 
 -- a line for each datagram of these lengths, which stand one behind the other; none from the first that is not there whole
 unfoldable pub datagram_lines : List ℕ → List ℕ → List ℕ

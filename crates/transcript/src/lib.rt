@@ -7,7 +7,7 @@ ghost use Rattle.std.specs.Prelude.{◌≡◌, ◌<◌, min, take};
 ghost use Rattle.notation.specs.Puts.{Put};
 ghost use Rattle.transcript.specs.Lines.{number_line, bytes_line, refusal_line, answer_line, count_line, time_line, datagram_lines, row};
 
-use answers::{Answer, Count, Time};
+use answers::Answer;
 use notation::put;
 use protocol::Refusal;
 
@@ -40,32 +40,32 @@ pub fn refused(out: &mut [u8], at: usize, refusal: Refusal) -> usize
 }
 
 // The answer of opening, sending or taking in.
-pub fn answer(out: &mut [u8], at: usize, answer: Answer) -> usize
+pub fn answer(out: &mut [u8], at: usize, answer: Answer<()>) -> usize
     ensures { Put out.old at (answer_line answer) result out.new }
 {
     match answer {
-        Answer::Accepted => put::bytes(out, at, b"ok\n"),
-        Answer::Refused(r) => refused(out, at, r),
+        Ok(()) => put::bytes(out, at, b"ok\n"),
+        Err(r) => refused(out, at, r),
     }
 }
 
 // The answer of a flush, behind its datagrams, and of telling the size.
-pub fn count(out: &mut [u8], at: usize, count: Count) -> usize
+pub fn count(out: &mut [u8], at: usize, count: Answer<usize>) -> usize
     ensures { Put out.old at (count_line count) result out.new }
 {
     match count {
-        Count::Of(n) => number_line(out, at, b"ok ", n as u64),
-        Count::Refused(r) => refused(out, at, r),
+        Ok(n) => number_line(out, at, b"ok ", n as u64),
+        Err(r) => refused(out, at, r),
     }
 }
 
 // The answer of a check.
-pub fn time(out: &mut [u8], at: usize, time: Time) -> usize
+pub fn time(out: &mut [u8], at: usize, time: Answer<u32>) -> usize
     ensures { Put out.old at (time_line time) result out.new }
 {
     match time {
-        Time::At(t) => number_line(out, at, b"ok ", t as u64),
-        Time::Refused(r) => refused(out, at, r),
+        Ok(t) => number_line(out, at, b"ok ", t as u64),
+        Err(r) => refused(out, at, r),
     }
 }
 

@@ -90,7 +90,7 @@ fn held(out: &mut [u8], at: usize, letter: u8, words: [u32; 128], count: usize) 
     let mut here = at;
     let mut i: usize = 0;
     while i < n {
-        let h = words::unpacked(words[i]);
+        let h = Held::from(words[i]);
         here = held_entry(out, here, letter, h);
         i += 1;
     }
@@ -146,7 +146,7 @@ fn outstanding(
     let mut i: usize = 0;
     while i < n {
         let o = Outstanding {
-            held: words::unpacked(words[i]),
+            held: Held::from(words[i]),
             transmissions: transmissions[i],
         };
         let r = record_at(table, o.held.slot);
@@ -179,7 +179,7 @@ fn waiting(out: &mut [u8], at: usize, words: [u32; 128], numbers: [u32; 128], co
     while i < n {
         let w = Waiting {
             number: numbers[i],
-            held: words::unpacked(words[i]),
+            held: Held::from(words[i]),
         };
         here = waiting_entry(out, here, w);
         i += 1;

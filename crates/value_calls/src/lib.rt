@@ -9,10 +9,10 @@ ghost use Rattle.promises.specs.Parts.{parts_of, flush_parts_of};
 ghost use Rattle.promises.specs.Outcomes.{shows};
 ghost use Rattle.promises.specs.Promises.{OpenPromise, SendPromise, InputPromise, FlushPromise, ReadPromise, SizePromise};
 ghost use Rattle.promises.specs.Promises.{UpdatePromise, CheckPromise};
-ghost use Rattle.answers.specs.declared.Count.{Count};
+ghost use Rattle.answers.specs.Answers.{Count};
 ghost use Rattle.flush_core.specs.Flushes.{update_of};
 
-use answers::{Answer, Count, Time, Update};
+use answers::Answer;
 use checking::flights;
 use control::Link;
 use protocol::Settings;
@@ -21,21 +21,21 @@ use timing::Record;
 // The answer of opening or sending, and the block after it.
 #[derive(Clone, Copy)]
 pub struct Answered {
-    pub answer: Answer,
+    pub answer: Answer<()>,
     pub link: Link,
 }
 
 // The answer of a read, and the block after it.
 #[derive(Clone, Copy)]
 pub struct Counted {
-    pub answer: Count,
+    pub answer: Answer<usize>,
     pub link: Link,
 }
 
 // The answer of taking in, and block and table after it.
 #[derive(Clone, Copy)]
 pub struct TakenIn {
-    pub answer: Answer,
+    pub answer: Answer<()>,
     pub link: Link,
     pub table: [Record; 128],
 }
@@ -43,7 +43,7 @@ pub struct TakenIn {
 // The answer of a flush, and block and table after it.
 #[derive(Clone, Copy)]
 pub struct FlushedOut {
-    pub answer: Count,
+    pub answer: Answer<usize>,
     pub link: Link,
     pub table: [Record; 128],
 }
@@ -51,7 +51,7 @@ pub struct FlushedOut {
 // The answer of an update, and block and table after it.
 #[derive(Clone, Copy)]
 pub struct UpdatedOut {
-    pub answer: Update,
+    pub answer: Answer<Option<usize>>,
     pub link: Link,
     pub table: [Record; 128],
 }
@@ -96,8 +96,8 @@ fn marks_of(link: Link) -> Marked
     let ready = link.ready;
     let waiting = link.waiting;
     let waiting_numbers = link.waiting_numbers;
-    let mut send = marks::none_to_send();
-    let mut receive = marks::none();
+    let mut send = [0; 128];
+    let mut receive = [0; 256];
     let sound = checking::sound(
         settings,
         flight,
@@ -312,13 +312,13 @@ pub fn input(
 }
 
 // A flush's answer as a count.
-fn count_of(update: Update) -> Count
+fn count_of(update: Answer<Option<usize>>) -> Answer<usize>
     ensures { (n : Count) → update ≡ update_of n → result ≡ n }
 {
     match update {
-        Update::Waited => Count::Of(0),
-        Update::Wrote(n) => Count::Of(n),
-        Update::Refused(refusal) => Count::Refused(refusal),
+        Ok(None) => Ok(0),
+        Ok(Some(n)) => Ok(n),
+        Err(refusal) => Err(refusal),
     }
 }
 
@@ -559,7 +559,7 @@ pub fn size(
     table: [Record; 128],
     lent: usize,
     acks: &[u32],
-) -> Count
+) -> Answer<usize>
     ensures { SizePromise link (parts_of send_pool.now receive_pool.now (take lent table)
         acks.now) result }
 {
@@ -606,7 +606,7 @@ pub fn check(
     lent: usize,
     acks: &[u32],
     t: u32,
-) -> Time
+) -> Answer<u32>
     ensures { CheckPromise t link
         (parts_of send_pool.now receive_pool.now (take lent table) acks.now) result }
 {

@@ -1,7 +1,7 @@
 -- The premises of demand 3 can be met by steps that keep the promises of the public calls: a sender, a receiver that hears nothing and gets
 -- 9, and one that hears the datagram and reads the message. Proved by computing.
 -- Assumes nothing.
-use Rattle.std.specs.Prelude.{refl, List, [], ◌∷◌, ℕ, replicate}
+use Rattle.std.specs.Prelude.{refl, List, [], ◌∷◌, ℕ, replicate, Err, Ok}
 use mathlib.Core.List.Memᴰ
 use Rattle.std.proofs.Common.{arith}
 use Rattle.std.proofs.lemmas.List.Edits.{sets}
@@ -71,8 +71,6 @@ use Rattle.words.specs.Words.{paired}
 use Rattle.control.specs.Views.{pairs, state_of, counts_fit, block_valid}
 use Rattle.records.specs.Tables.{blank, scattered}
 use Rattle.packing.specs.Packers.{joined, lengths_of}
-use Rattle.answers.specs.declared.Answer.TheVariants as answer
-use Rattle.answers.specs.declared.Count.TheVariants as count
 use Rattle.promises.specs.Parts.{Parts, flush_parts_of}
 use Rattle.promises.specs.Outcomes.{sends_with, takes_in_with, flushes_with, reads_with, sends, takes_in, flushes, reads}
 use Rattle.delivery.specs.Accepted.{accepted_for}
@@ -166,7 +164,7 @@ met = record {
     promise = record { answer = refl; number = refl; leaves = (record { counts = refl; state = refl }, refl) };
   };
   sends_it = record {
-    gives = answer.Accepted;
+    gives = Ok tt;
     promise = record {
       answer = refl;
       number = refl;
@@ -177,7 +175,7 @@ met = record {
   flushes_it = record {
     lent = flush_parts_of (replicate output_least 0) (replicate lengths_least 0);
     room = record { long = omega arith; many = omega arith };
-    gives = count.Of 1;
+    gives = Ok 1;
     after = flush_parts_of (sets (replicate output_least 0) 0 datagram) (sets (replicate lengths_least 0) 0 (26 ∷ []));
     promise = record {
       answer = refl;
@@ -196,13 +194,13 @@ met = record {
   reads_nothing = record {
     buffer = replicate 10 0;
     long = refl;
-    gives = count.Refused NoMessage;
+    gives = Err NoMessage;
     buffer' = replicate 10 0;
     promise = record { answer = refl; number = refl; leaves = record { unchanged = record { link = refl; parts = refl }; bytes = refl } };
     sees = refl;
   };
   takes_it = record {
-    gives = answer.Accepted;
+    gives = Ok tt;
     promise = record {
       answer = refl;
       number = refl;
@@ -220,7 +218,7 @@ met = record {
   reads_it = record {
     buffer = replicate 10 0;
     long = refl;
-    gives = count.Of 2;
+    gives = Ok 2;
     buffer' = sets (replicate 10 0) 0 (104 ∷ 105 ∷ []);
     promise = record {
       answer = refl;

@@ -1,7 +1,7 @@
 -- The premises of the quiet theorem can be met by steps that keep the promises of the public calls: a sender whose first update, at 7,
 -- flushes; a check at 8 that names 107; updates at 106 and then at 20, a clock that goes back, which both wait. Proved by computing.
 -- Assumes nothing.
-use Rattle.std.specs.Prelude.{refl, [], ◌∷◌, ℕ, replicate}
+use Rattle.std.specs.Prelude.{refl, [], ◌∷◌, ℕ, replicate, None, Ok, Some}
 use Rattle.std.proofs.Common.{arith}
 use Rattle.std.proofs.lemmas.List.Edits.{sets}
 use Rattle.protocol.specs.Protocol.{output_least, lengths_least}
@@ -56,8 +56,6 @@ use Rattle.words.specs.Words.{paired}
 use Rattle.control.specs.Views.{pairs, state_of, counts_fit, block_valid}
 use Rattle.records.specs.Tables.{blank, scattered}
 use Rattle.packing.specs.Packers.{joined, lengths_of}
-use Rattle.answers.specs.declared.Update.TheVariants as update
-use Rattle.answers.specs.declared.Time.TheVariants as time
 use Rattle.promises.specs.Parts.{FlushParts, flush_parts_of}
 use Rattle.promises.specs.Outcomes.{sends_with, updates_with, checks_with}
 use Rattle.promises.specs.Promises.{UpdatePromise, CheckPromise}
@@ -127,7 +125,7 @@ unfolding used_window slow_start raised widened avoidance limited grown after_da
 updates_it = record {
   lent = blank_parts;
   room = record { long = omega arith; many = omega arith };
-  gives = update.Wrote 1;
+  gives = Ok (Some 1);
   after = flush_parts_of (sets blank_parts.output 0 datagram) (sets blank_parts.lengths 0 (26 ∷ []));
   promise = record {
     answer = refl;
@@ -144,7 +142,7 @@ updates_it = record {
   sees = refl;
 }
 
-pub checks_it : CheckPromise 8 updated.link updated.parts (time.At 107)
+pub checks_it : CheckPromise 8 updated.link updated.parts (Ok 107)
 unfolding used_window slow_start raised widened avoidance limited grown after_datagram halved by_skips by_timeout at_least_one fits
     congestion.after_flush updated rested rested_again counts_fit state_of pairs joining.joined block_valid updates_with checks_with
     scheduling.updated corrected started following is_astray ahead earliest named updating checking signed is_before is_after is_due
@@ -152,7 +150,7 @@ unfolding used_window slow_start raised widened avoidance limited grown after_da
     valid paired
 checks_it = record { answer = refl; number = refl }
 
-pub waits : UpdatePromise 106 updated.link updated.parts blank_parts update.Waited rested.link rested.parts blank_parts
+pub waits : UpdatePromise 106 updated.link updated.parts blank_parts (Ok None) rested.link rested.parts blank_parts
 unfolding used_window slow_start raised widened avoidance limited grown after_datagram halved by_skips by_timeout at_least_one fits
     congestion.after_flush updated rested rested_again counts_fit state_of pairs joining.joined block_valid updates_with checks_with
     scheduling.updated corrected started following is_astray ahead earliest named updating checking signed is_before is_after is_due
@@ -165,7 +163,7 @@ waits =
       leaves = record { stands = record { counts = refl; state = refl }; parts = refl; flush_parts = refl };
     }
 
-pub waits_again : UpdatePromise 20 rested.link rested.parts blank_parts update.Waited
+pub waits_again : UpdatePromise 20 rested.link rested.parts blank_parts (Ok None)
     rested_again.link rested_again.parts blank_parts
 unfolding used_window slow_start raised widened avoidance limited grown after_datagram halved by_skips by_timeout at_least_one fits
     congestion.after_flush updated rested rested_again counts_fit state_of pairs joining.joined block_valid updates_with checks_with
@@ -195,13 +193,13 @@ sender_runs = record {
 }
 
 -- the theorem says something of them
-pub holds : StaysQuiet 8 107 updated (update.Waited ∷ update.Waited ∷ []) rested_again
+pub holds : StaysQuiet 8 107 updated ((Ok None) ∷ (Ok None) ∷ []) rested_again
 holds =
     stays_quiet updated 8 107 (fits_since sender_runs) (omega arith) checks_it (106 ∷ 20 ∷ [])
-    (update.Waited ∷ update.Waited ∷ []) rested_again
+    ((Ok None) ∷ (Ok None) ∷ []) rested_again
     (record { fits = omega arith; before = omega arith }, (record { fits = omega arith; before = omega arith }, tt))
-    (quiet.next updated 106 update.Waited rested blank_parts blank_parts waits
-    (quiet.next rested 20 update.Waited rested_again blank_parts blank_parts waits_again quiet.start))
+    (quiet.next updated 106 (Ok None) rested blank_parts blank_parts waits
+    (quiet.next rested 20 (Ok None) rested_again blank_parts blank_parts waits_again quiet.start))
 
 -- and the named time is less than an interval away, so it is wanted
 pub wanted : NoSooner 8 107 updated

@@ -2,7 +2,7 @@
 -- receiver reads 9, the sender's update at 300 sends the segment again, it arrives, the receiver flushes, and that arrives. Proved by
 -- computing.
 -- Assumes nothing.
-use Rattle.std.specs.Prelude.{◌≡◌, refl, true, false, List, [], ◌∷◌, ℕ, replicate}
+use Rattle.std.specs.Prelude.{◌≡◌, refl, true, false, List, [], ◌∷◌, ℕ, replicate, Ok, Some}
 use mathlib.Core.List.Memᴰ
 use Rattle.std.proofs.Common.{arith}
 use Rattle.std.proofs.lemmas.List.Edits.{sets}
@@ -74,9 +74,6 @@ use Rattle.words.specs.Words.{paired}
 use Rattle.control.specs.Views.{pairs, state_of, counts_fit, block_valid}
 use Rattle.records.specs.Tables.{blank, scattered}
 use Rattle.packing.specs.Packers.{joined, lengths_of}
-use Rattle.answers.specs.declared.Answer.TheVariants as answer
-use Rattle.answers.specs.declared.Count.TheVariants as count
-use Rattle.answers.specs.declared.Update.TheVariants as update
 use Rattle.promises.specs.Parts.{flush_parts_of}
 use Rattle.promises.specs.Outcomes.{sends_with, takes_in_with, flushes_with, updates_with, takes_in, flushes}
 use Rattle.delivery.specs.PlainReceiver.{push_numbers, pushes_in}
@@ -174,7 +171,7 @@ met = record {
   sends_again = record {
     lent = flush_parts_of (replicate 50992 0) (replicate 290 0);
     room = record { long = omega arith; many = omega arith };
-    gives = update.Wrote 1;
+    gives = Ok (Some 1);
     after = flush_parts_of (sets (replicate 50992 0) 0 again) (sets (replicate 290 0) 0 (26 ∷ []));
     promise = record {
       answer = refl;
@@ -191,7 +188,7 @@ met = record {
     sees = refl;
   };
   takes_it = record {
-    gives = answer.Accepted;
+    gives = Ok tt;
     promise = record {
       answer = refl;
       number = refl;
@@ -209,7 +206,7 @@ met = record {
   replies = record {
     lent = flush_parts_of (replicate 50992 0) (replicate 290 0);
     room = record { long = omega arith; many = omega arith };
-    gives = count.Of 1;
+    gives = Ok 1;
     after = flush_parts_of (sets (replicate 50992 0) 0 acked) (sets (replicate 290 0) 0 (24 ∷ []));
     promise = record {
       answer = refl;
@@ -226,7 +223,7 @@ met = record {
     sees = refl;
   };
   takes_ack = record {
-    gives = answer.Accepted;
+    gives = Ok tt;
     promise = record {
       answer = refl;
       number = refl;

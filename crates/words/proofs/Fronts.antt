@@ -1,31 +1,44 @@
--- What a loop that writes the front of a lent array leaves.
+-- What a move within the front of a lent array leaves.
 -- Assumes nothing.
-use mathlib.Core.Path.{◌≡◌, refl, sym, ap, ◌∙◌, subst}
-use mathlib.Core.List.{List, [], ◌∷◌, ◌++◌}
-use Prim.Native.Nat.{ℕ, ◌+◌, ◌-◌, ◌≤◌, ◌<◌}
-use native.Mathlib.Omega.{arith}
-use lib.ListN.{length, take, drop, set, length-set}
-use Rattle.lists.specs.Views.{Holds}
-use Rattle.lists.proofs.Loops.{Packed, holds_put, packed_done, written_put, written_done, view_end}
+use Rattle.std.proofs.Common.{◌≡◌, refl, ap, ◌∙◌, List, ◌∷◌, ◌++◌, ℕ, ◌+◌, ◌-◌, ◌≤◌, ◌<◌, length, take, drop, get_or, set, arith, length-set, length-drop}
+use lib.Seq.{paste, take-suc, take-set-lt, set_at, length-take-le, take-take, append_snoc}
+use native.Mathlib.Numerals.{add-one}
+use Rattle.std.proofs.lemmas.List.Edits.{take-paste, length-paste}
+use Rattle.std.proofs.lemmas.Slice.{between_is}
 use Rattle.words.specs.Words.{Front}
 
-module _ {A : Type 0} {size : ℕ} where
-  front : {at : List A} {n : ℕ} {l : List A} → length at ≡ size → Holds size at n l → Front size at n l
-  front e h = record { whole = e; fits = h.fits; list = h.list }
+module _ {A : Type 0} {size : ℕ} (l : List A) (n : ℕ) (e : length l ≡ size) where
+  -- those from k on stand at the front
+  pub front_moved : (k : ℕ) → n ≤ size → k ≤ n → Front size (paste l 0 (drop k l) (n - k)) (n - k) (drop k (take n l))
+  front_moved k h g =
+      let q : n - k ≡ 0 + (n - k) = omega arith in
+      record {
+        whole = length-paste l 0 (drop k l) (n - k) (omega arith) (omega (arith, length-drop k l)) ∙ e;
+        fits = omega arith;
+        list = ap (λ (m : ℕ). take m (paste l 0 (drop k l) (n - k))) q
+            ∙ take-paste l 0 (drop k l) (n - k) (omega arith) (omega (arith, length-drop k l)) ∙ between_is l k n;
+      }
 
-  -- at another count, which is the same
-  pub front_at : {at : List A} {n : ℕ} {l : List A} (m : ℕ) → n ≡ m → Front size at n l → Front size at m l
-  front_at {at} {n} {l} m e f = subst (λ (i : ℕ). Front size at i l) e f
-
-  pub front_put : (at : List A) (n : ℕ) (a : A) → length at ≡ size → n < size → Front size (set at n a) (n + 1) (take n at ++ (a ∷ []))
-  front_put at n a e h = front (length-set at n a ∙ e) (holds_put at n a e h)
-
-  pub front_packed : {n : ℕ} {l₀ l todo goal : List A} {i j : ℕ} → todo ≡ [] → Packed size n l₀ l todo goal i j → Front size l j goal
-  front_packed e p = front p.written.whole (packed_done e p)
-
-  -- what is carried is put behind the last
-  pub front_carried : {n : ℕ} {l₀ l goal : List A} {a : A} {j : ℕ} (m : ℕ) → n ≤ j → n < size → n + 1 ≡ m
-      → Packed size n l₀ l (a ∷ drop j (take n l₀)) goal j j → Front size (set l j a) m goal
-  front_carried {n} {l₀} {l} {goal} {a} {j} m h g e p =
-      front_at m (omega (arith, p.upto)) (front (length-set l j a ∙ p.written.whole)
-      (written_done (view_end l₀ n j h) (written_put (omega (arith, p.upto)) p.written)))
+  -- those from i on stand one place further, and a is put at i
+  pub front_inserted : (i : ℕ) (a : A) → n < size → i ≤ n
+      → Front size (set (paste l (i + 1) (drop i l) (n - i)) i a) (n + 1) (take i (take n l) ++ (a ∷ drop i (take n l)))
+  front_inserted i a h g =
+      let moved : List A = paste l (i + 1) (drop i l) (n - i) in
+      let q : n + 1 ≡ i + 1 + (n - i) = omega arith in
+      let rest : take (n - i) (drop i l) ≡ drop i (take n l) = between_is l i n in
+      let front : take (n + 1) moved ≡ take (i + 1) l ++ take (n - i) (drop i l) =
+      rw q (take-paste l (i + 1) (drop i l) (n - i) (omega arith) (omega (arith, length-drop i l))) in
+      record {
+        whole = length-set moved i a ∙ length-paste l (i + 1) (drop i l) (n - i) (omega arith) (omega (arith, length-drop i l)) ∙ e;
+        fits = omega arith;
+        list = take-set-lt (n + 1) moved i a (omega arith) ∙ ap (λ (x : List A). set x i a) front
+            ∙ rw (
+              add-one,
+              take-suc l i a (omega arith),
+              append_snoc,
+              set_at (take i l) (get_or l i a) (take (n - i) (drop i l)) a i
+                  (length-take-le i l (omega arith)),
+              rest,
+              ← take-take i n l g,
+            ) refl;
+      }

@@ -1,22 +1,22 @@
 -- Two arrays side by side, as one list: reads, stores and insertion.
 -- Assumes nothing.
-use mathlib.Core.Path.{◌≡◌, refl, sym, ap, subst, ◌∙◌}
-use mathlib.Core.Bool.{Bool, true, false, ◌&&◌, not}
+use mathlib.Core.Path.{◌≡◌, refl, sym, ap, ◌∙◌}
+use mathlib.Core.Bool.{Bool, true, false, ◌&&◌}
 use mathlib.Core.List.{List, [], ◌∷◌, ◌++◌}
 use Prim.Native.Nat.{ℕ, zero, suc, ◌+◌, ◌≤◌, ◌<◌}
 use native.Mathlib.Nat.{not-suc-le-zero, le_of_suc-le-suc}
 use native.Mathlib.Decide.{dec_lt}
 use native.Mathlib.Omega.{arith}
-use borrow.Author.Tests.{lt-ltb, le-ltb, eq-eqb, ne_eqb, ltb-true, eqb-true, eqb-false}
+use borrow.Author.Tests.{lt-ltb, le-ltb, eq-eqb, ne_eqb, ltb-true, eqb-true}
 use lib.Dec.{ltb, eqb}
-use lib.ListN.{length, take, drop, get_or, set, length-set}
+use lib.ListN.{length, take, drop, get_or, set}
 use lib.Seq.{get_or-take, length-take-le}
 use Rattle.protocol.specs.Serial.{minus}
 use Rattle.lists.specs.declared.Waiting.{Waiting}
 use Rattle.lists.specs.Orders.{insert, waiting_offset}
 use Rattle.lists.proofs.Searches.{insert_end, insert_same, insert_here, insert_room}
 use Rattle.session.specs.Decides.{and_parts}
-use Rattle.words.specs.Words.{Front, Sides, Placed, paired, waiting_at, waiting_in}
+use Rattle.words.specs.Words.{Front, Sides, Placed, is_at, paired, waiting_at, waiting_in}
 
 -- ---- laws of `paired`
 
@@ -153,17 +153,22 @@ module _ (ws ns : List ℕ) (n i base word number : ℕ) (e : length ws ≡ 128)
       }
 
 -- ---- the search for a place
-pub more_below : (base offset : ℕ) (ns : List ℕ) (i : ℕ) → minus (get_or ns i 0) base < offset
-    → ((j : ℕ) → j < i → minus (get_or ns j 0) base < offset) → (j : ℕ) → j < i + 1 → minus (get_or ns j 0) base < offset
-more_below base offset ns i h b j l = go (dec_lt j i)
+-- what the search of the first n numbers tells, k being the offset of the number
+pub searched : (base number n i k : ℕ) (ns : List ℕ) (b : Bool) → n ≤ length ns → k ≡ minus number base
+    → Placed base k (take n ns) (length (take n ns)) i × (is_at (take n ns) (length (take n ns)) i base k ≡ b)
+    → Placed base (minus number base) ns n i × (is_at ns n i base (minus number base) ≡ b)
+searched base number n i k ns b h e p =
+    let q : length (take n ns) ≡ n = length-take-le n ns h in
+    let w : i ≤ n = omega (arith, p.0.within) in
+    rw (← e) (
+      record {
+        within = w;
+        below = λ j l. rw (get_or-take n ns j 0 (omega arith)) at (p.0.below j l);
+        here = λ l. rw (get_or-take n ns i 0 l) at (p.0.here (omega arith));
+      },
+      go (dec_lt i n),
+    )
   where
-    go : Dec (j < i) → minus (get_or ns j 0) base < offset
-    go (yes s) = b j s
-    go (no s) = let q : j ≡ i = omega arith in rw q h
-
--- what the search and the test at its place tell, k being the offset of the number
-pub searched : (base number n i k : ℕ) (ns : List ℕ) (r b : Bool) → k ≡ minus number base → Placed base k ns n i
-    → r ≡ (ltb i n && eqb (minus (get_or ns i 0) base) k) → r ≡ b
-    → Placed base (minus number base) ns n i × ((ltb i n && eqb (minus (get_or ns i 0) base) (minus number base)) ≡ b)
-searched base number n i k ns r b e p t z =
-    (subst (λ (m : ℕ). Placed base m ns n i) e p, ap (λ (m : ℕ). ltb i n && eqb (minus (get_or ns i 0) base) m) (sym e) ∙ sym t ∙ z)
+    go : Dec (i < n) → is_at ns n i base k ≡ b
+    go (yes l) = rw (lt-ltb i n l) (rw (length-take-le n ns h, lt-ltb i n l, get_or-take n ns i 0 l) at p.1)
+    go (no l) = rw (le-ltb i n (omega arith)) (rw (length-take-le n ns h, le-ltb i n (omega arith)) at p.1)

@@ -1,15 +1,13 @@
 -- A held segment as one word of 32 bits: its slot, its fragment number and its length; lists as the front of arrays of words.
 -- Definitions.
 -- Assumes nothing.
-use Rattle.std.specs.Prelude.{◌≡◌, List, [], ◌∷◌, map, ℕ, ◌≤◌, ◌<◌, ◌/◌, ◌%◌, length, take, get_or}
+use Rattle.std.specs.Prelude.{◌≡◌, List, [], ◌∷◌, map, Bool, true, false, ◌&&◌, ℕ, ◌≤◌, ◌<◌, ltb, eqb, length, take, get_or, MatchResult}
+use Rattle.std.specs.declared.result.Result.{Result}
 use Rattle.protocol.specs.Serial.{minus}
 use Rattle.lists.specs.declared.Held.{Held}
+pub use Rattle.lists.specs.Views.{unpack}
 use Rattle.lists.specs.declared.Waiting.{Waiting}
 use Rattle.lists.specs.declared.Outstanding.{Outstanding}
-
--- slot and fragment number of 8 bits, length of 16 bits
-abbrev pub unpack : ℕ → Held
-unpack w = record { slot = w % 256; len = w / 65536; fragment = w / 256 % 256 }
 
 -- the segments of the first n words
 abbrev pub held_in : List ℕ → ℕ → List Held
@@ -58,3 +56,13 @@ pub record Placed (base offset : ℕ) (numbers : List ℕ) (n i : ℕ) : Type 0 
   pub within : i ≤ n
   pub below : (j : ℕ) → j < i → minus (get_or numbers j 0) base < offset
   pub here : i < n → offset ≤ minus (get_or numbers i 0) base
+
+-- index i is one of n, and the number there has that offset from base
+abbrev pub is_at : List ℕ → ℕ → ℕ → ℕ → ℕ → Bool
+is_at numbers n i base offset = ltb i n && eqb (minus (get_or numbers i 0) base) offset
+
+-- the index of a number with that offset from base, or else the index at which one goes in
+abbrev pub Sought : ℕ → ℕ → List ℕ → ℕ → Result ℕ ℕ → Type 0
+Sought base offset numbers n r =
+    MatchResult r (λ i. Placed base offset numbers n i × (is_at numbers n i base offset ≡ true))
+    (λ i. Placed base offset numbers n i × (is_at numbers n i base offset ≡ false))

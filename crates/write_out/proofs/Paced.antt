@@ -7,9 +7,6 @@ use Prim.Native.Nat.{ℕ}
 use lib.IntN.{ℤ}
 use lib.ListN.{length}
 use Rattle.timing.specs.declared.Record.{Record}
-use Rattle.answers.specs.declared.Count.{Count}
-use Rattle.answers.specs.declared.Count.TheVariants as count
-use Rattle.answers.specs.declared.Update.{Update}
 use Rattle.control.specs.Views.{Whole, arrays_of}
 use Rattle.control.specs.declared.Link.{Link}
 use Rattle.records.specs.Tables.{slots_in, scattered}
@@ -23,6 +20,8 @@ use Rattle.from_cores.proofs.Updating.{update_left, update_promised}
 use Rattle.flush_core.specs.declared.Flushed.{Flushed}
 use Rattle.flush_core.specs.Flushes.{put_back, update_of, Core}
 use Rattle.write_out.specs.Written.{Left, WrittenOut}
+use Rattle.answers.specs.Answers.{Count, Update}
+use Rattle.std.specs.Prelude.{Err, Ok}
 
 -- the records of the table, gathered
 pub left : (paced : Bool) (t : ℕ) (l : Link) (p : Parts) (f : FlushParts) (r : Flushed) (l' : Link) (records' : List Record)
@@ -36,8 +35,8 @@ left true t l p f r l' records' f' records n g whole h =
 
 -- the number of a count is that of the same answer of an update
 same_code : (n : Count) → update_code (update_of n) ≡ count_code n
-same_code (count.Of n) = refl
-same_code (count.Refused q) = refl
+same_code (Ok n) = refl
+same_code (Err q) = refl
 
 pub gives : (paced : Bool) (t : ℕ) (l : Link) (p : Parts) (f : FlushParts) (a : Update) (b : PutBack) (l' : Link) (f' : FlushParts)
     (table' : List Record) → length b.records ≡ 32 → table' ≡ scattered p.table (slots_in b.words b.changed) b.records

@@ -2,8 +2,6 @@
 -- Definitions.
 -- Assumes nothing.
 use Rattle.std.specs.Prelude.{◌≡◌, Bool, true, false, ℕ, ℤ}
-use Rattle.answers.specs.declared.Count.{Count}
-use Rattle.answers.specs.declared.Update.{Update}
 use Rattle.control.specs.declared.Link.{Link}
 use Rattle.promises.specs.Parts.{Parts, FlushParts}
 use Rattle.promises.specs.Cores.{PutBack}
@@ -12,6 +10,7 @@ use Rattle.codes.specs.Codes.{count_code, update_code}
 use Rattle.codes.specs.Gives.{Gives}
 use Rattle.from_cores.specs.Left.{FlushLeft, UpdateLeft}
 use Rattle.flush_core.specs.Flushes.{update_of}
+use Rattle.answers.specs.Answers.{Count, Update}
 
 abbrev pub Left : Bool → ℕ → Link → Parts → FlushParts → Update → PutBack → Link → FlushParts → Type 0
 Left false t l p f a b l' f' = (n : Count) × (a ≡ update_of n) × FlushLeft t l p f n b l' f'

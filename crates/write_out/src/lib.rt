@@ -26,15 +26,15 @@ pub fn write_out(
         (parts_of send_pool.now receive_pool.now table.new acks.now)
         (flush_parts_of output.new lengths.new) result }
 {
-    let mut send_marks = marks::none_to_send();
-    let mut receive_marks = marks::none();
+    let mut send_marks = [0; 128];
+    let mut receive_marks = [0; 256];
     let sound = block_check::sound(link, &mut send_marks, &mut receive_marks);
     let settings = link.settings;
     let flight = link.flight;
     let arrival = link.arrival;
     let clock = link.clock;
     let n = results::outstanding_count(flight);
-    let mut records = record_words::none();
+    let mut records = records::none();
     gathering::gather(table, &link.outstanding, n, &mut records);
     let lent = records::table_len(table);
     let flushed = flush_core::flush(

@@ -2,7 +2,7 @@
 -- outstanding that one of its acks names, and each of its pushes that is new is held, in its turn.
 -- Assumes nothing.
 use Rattle.std.proofs.Math.Path.{◌≡◌, refl, ap}
-use Rattle.std.proofs.Common.{sym, ◌∙◌, arith, length-append, eqb-true, eq-eqb}
+use Rattle.std.proofs.Common.{sym, ◌∙◌, arith, length-append, eqb-true, eq-eqb, Err, Ok}
 use Rattle.std.specs.Prelude.{Bool, cond, not, ◌&&◌, ◌||◌, ℕ, suc, ◌+◌, eqb, ltb, length}
 use Rattle.std.proofs.Math.Bool.{true, false}
 use mathlib.Core.List.{List, [], ◌∷◌, map}
@@ -51,12 +51,12 @@ use Rattle.session.specs.Input.{
 use Rattle.sizes.specs.Sizes.{enough}
 use Rattle.control.specs.Views.{state_of}
 use Rattle.control.specs.declared.Link.{Link}
-use Rattle.answers.specs.declared.Answer.TheVariants as answer
 use Rattle.promises.specs.Parts.{Parts, lengths_of, state_in, is_made}
 use Rattle.promises.specs.Outcomes.{checked, takes_in_with}
 use Rattle.promises.specs.Answers.{Accepts}
 use Rattle.promises.specs.Promises.{TookIn, InputPromise, InputLeaves}
 use Rattle.wrong_links.specs.Halves.{outstanding_numbers, held_count, is_kept, kept_of}
+use Rattle.answers.specs.Answers.{Answer}
 
 -- ---- the sending half
 
@@ -239,17 +239,17 @@ all_held m (g ∷ gs) x = omega (arith, all_held m gs (heard_by_receiving m x g)
 
 -- ---- from the promise
 
-not_accepted : {A : Type 0} {r : Refusal} → answer.Accepted ≡ answer.Refused r → A
+not_accepted : {A : Type 0} {r : Refusal} → ◌≡◌ {A = Answer} (Ok tt) (Err r) → A
 not_accepted e = absurd (let z : ◌≡◌ {A = ℕ} 0 1 = cc in omega arith)
 
 module _ (l : Link) (p : Parts) (l' : Link) (p' : Parts) (d : List ℕ) (gs : List Segment)
-    (is : parse l.settings.conv (mss l.settings) d ≡ Parsed.segments gs) (h : InputPromise d l p answer.Accepted l' p') where
+    (is : parse l.settings.conv (mss l.settings) d ≡ Parsed.segments gs) (h : InputPromise d l p (Ok tt) l' p') where
   -- the state after an accepted datagram is that of its segments applied
   pub input_applied : state_in l' p' ≡ (applied (state_in l p) p.receive_pool gs).state
   unfolding takes_in_with input state_of
   input_applied = go (enough (mss l.settings) (lengths_of p)) (is_made l p) h.answer h.leaves
     where
-      go : (long made : Bool) → Accepts answer.Accepted
+      go : (long made : Bool) → Accepts (Ok tt)
           (checked long made (taking (state_in l p) p.receive_pool (parse l.settings.conv (mss l.settings) d)))
           → InputLeaves (checked long made (taking (state_in l p) p.receive_pool (parse l.settings.conv (mss l.settings) d))) l l' p
           p'

@@ -1,6 +1,6 @@
 -- What the promise of a call says of a block at a known state: the answer, and the state that it is at afterwards.
 -- Assumes nothing.
-use Rattle.std.specs.Prelude.{◌≡◌, true, List, map, ℕ, leb, length}
+use Rattle.std.specs.Prelude.{◌≡◌, true, List, map, ℕ, leb, length, Err, None, Ok, Some}
 use Rattle.std.proofs.Math.Path.{ap}
 use Rattle.std.proofs.Common.{◌∙◌, subst}
 use Rattle.std.proofs.lemmas.List.Edits.{sets}
@@ -20,13 +20,6 @@ use Rattle.session.specs.Updating.{Updates, waits, updating, checking}
 use Rattle.control.specs.Views.{state_of, block_valid}
 use Rattle.control.specs.declared.Link.{Link}
 use Rattle.records.specs.TableLaws.{scattered_length}
-use Rattle.answers.specs.declared.Answer.{Answer}
-use Rattle.answers.specs.declared.Answer.TheVariants as answer
-use Rattle.answers.specs.declared.Count.{Count}
-use Rattle.answers.specs.declared.Count.TheVariants as count
-use Rattle.answers.specs.declared.Update.{Update}
-use Rattle.answers.specs.declared.Update.TheVariants as update
-use Rattle.answers.specs.declared.Time.{Time}
 use Rattle.promises.specs.Parts.{Parts, FlushParts, lengths_of, is_made}
 use Rattle.promises.specs.Outcomes.{
   sends_with,
@@ -70,13 +63,14 @@ use Rattle.promises.specs.Promises.{
   ShowsPart,
 }
 use Rattle.wrong_links.specs.Standing.{Known, Lends, At, Passes, lengths_known}
+use Rattle.answers.specs.Answers.{Answer, Count, Update, Time}
 
 -- ---- opening
 
 -- opening with parts that have these pools, 128 records and 512 entries for acks
 module _ (c : Settings) (l : Link) (p : Parts) (l' : Link) (p' : Parts) (k : Known) (a : Answer) where
   pub opening_goes : Lends p k.send_pool k.receive_pool → opening c (lengths_known k) ≡ done k.state → OpenPromise c l p a l' p'
-      → (a ≡ answer.Accepted) × At l' p' k
+      → (a ≡ Ok tt) × At l' p' k
   opening_goes lends e h =
       let o : opens c p ≡ done k.state = rw (lends.send_pool, lends.receive_pool, lends.table, lends.acks) e in
       let r = subst (λ (o : Outcome State). Accepts a o × OpenLeaves o l l' p p') o (h.answer, h.leaves) in
@@ -133,7 +127,7 @@ module _ (l : Link) (p : Parts) (k : Known) (at : At l p k) (passes : Passes k) 
   -- a message that the definition accepts is accepted and queued
   pub send_goes : (m : List ℕ) (a : Answer) (l' : Link) (p' : Parts) (x : Sends) → sending k.state k.send_pool m ≡ done x
       → SendPromise m l p a l' p'
-      → (a ≡ answer.Accepted) × At l' p' (record { state = x.state; send_pool = x.pool; receive_pool = k.receive_pool })
+      → (a ≡ Ok tt) × At l' p' (record { state = x.state; send_pool = x.pool; receive_pool = k.receive_pool })
   send_goes m a l' p' x e h =
       let r = subst (λ (o : Outcome Sends). Accepts a o × SendLeaves o l l' p p') (sends_known m ∙ e) (h.answer, h.leaves) in (
         r.0,
@@ -151,7 +145,7 @@ module _ (l : Link) (p : Parts) (k : Known) (at : At l p k) (passes : Passes k) 
   -- a datagram that the definition accepts is accepted and taken in, by both halves
   pub input_goes : (d : List ℕ) (a : Answer) (l' : Link) (p' : Parts) (x : Took) → input k.state k.receive_pool d ≡ done x
       → InputPromise d l p a l' p'
-      → (a ≡ answer.Accepted) × At l' p' (record { state = x.state; send_pool = k.send_pool; receive_pool = x.pool })
+      → (a ≡ Ok tt) × At l' p' (record { state = x.state; send_pool = k.send_pool; receive_pool = x.pool })
   input_goes d a l' p' x e h =
       let r = subst (λ (o : Outcome Took). Accepts a o × InputLeaves o l l' p p') (takes_known d ∙ e) (h.answer, h.leaves) in (
         r.0,
@@ -192,7 +186,7 @@ module _ (l : Link) (p : Parts) (k : Known) (at : At l p k) (passes : Passes k) 
       → leb lengths_least (length f.lengths) ≡ true
       → flushing k.state t k.send_pool ≡ x
       → FlushPromise t l p f a l' p' f'
-      → (a ≡ count.Of (length x.datagrams)) × Wrote x l' p' f f'
+      → (a ≡ Ok (length x.datagrams)) × Wrote x l' p' f f'
   flush_goes t f a l' p' f' x o n e h =
       let r =
       subst (λ (o : Outcome Flushed). Counts (λ (y : Flushed). length y.datagrams) a o × FlushLeaves o l l' p p' f f')
@@ -210,12 +204,12 @@ module _ (l : Link) (p : Parts) (k : Known) (at : At l p k) (passes : Passes k) 
 
     -- an update that flushes by the definition answers and leaves the same
     pub update_goes : (x : Flushed) → updating k.state t k.send_pool ≡ session.flushes x
-        → (a ≡ update.Wrote (length x.datagrams)) × Wrote x l' p' f f'
+        → (a ≡ Ok (Some (length x.datagrams))) × Wrote x l' p' f f'
     update_goes x e = let r = update_gives (session.flushes x) e in (r.0, wrote x l' p' f f' r.1)
 
     -- one that waits by the definition changes the state alone
     pub update_waits : (s : State) → updating k.state t k.send_pool ≡ waits s
-        → (a ≡ update.Waited)
+        → (a ≡ Ok None)
         × At l' p' (record { state = s; send_pool = k.send_pool; receive_pool = k.receive_pool })
         × (p' ≡ p) × (f' ≡ f)
     update_waits s e =
@@ -229,7 +223,7 @@ module _ (l : Link) (p : Parts) (k : Known) (at : At l p k) (passes : Passes k) 
   pub read_goes : (buffer : List ℕ) (a : Count) (l' : Link) (p' : Parts) (buffer' : List ℕ) (x : Reads)
       → reading k.state k.receive_pool (length buffer) ≡ done x
       → ReadPromise l p buffer a l' p' buffer'
-      → (a ≡ count.Of (length x.bytes))
+      → (a ≡ Ok (length x.bytes))
       × At l' p' (record { state = x.state; send_pool = k.send_pool; receive_pool = k.receive_pool })
       × (buffer' ≡ sets buffer 0 x.bytes)
   read_goes buffer a l' p' buffer' x e h =
@@ -242,7 +236,7 @@ module _ (l : Link) (p : Parts) (k : Known) (at : At l p k) (passes : Passes k) 
   pub read_refused : (buffer : List ℕ) (a : Count) (l' : Link) (p' : Parts) (buffer' : List ℕ) (r : Refusal)
       → reading k.state k.receive_pool (length buffer) ≡ refused r
       → ReadPromise l p buffer a l' p' buffer'
-      → (a ≡ count.Refused r) × NoRead l l' p p' buffer buffer'
+      → (a ≡ Err r) × NoRead l l' p p' buffer buffer'
   read_refused buffer a l' p' buffer' r e h =
       subst (λ (o : Outcome Reads). Counts (λ (y : Reads). length y.bytes) a o × ReadLeaves o l l' p p' buffer buffer')
       (reads_known (length buffer) ∙ e) (h.answer, h.leaves)

@@ -9,7 +9,7 @@
 -- - one that handles the first segment or the first message only: `send_second`, `flush_both`, `input_acks`, `input_second`, `read_second_lem`;
 -- - one that invents the datagram count or the message size: `flush_both`, `size_none`, `size_first`, `read_first`, `read_second_lem`.
 -- Assumes nothing.
-use Rattle.std.specs.Prelude.{◌≡◌, true, List, [], ◌∷◌, map, ℕ, leb, length, get_or, replicate}
+use Rattle.std.specs.Prelude.{◌≡◌, true, List, [], ◌∷◌, map, ℕ, leb, length, get_or, replicate, Err, None, Ok, Some}
 use Rattle.std.proofs.Math.Path.{refl}
 use Rattle.std.proofs.Common.{ap, ◌∙◌, arith}
 use Rattle.std.proofs.lemmas.List.Edits.{sets}
@@ -20,14 +20,6 @@ use Rattle.lists.specs.declared.Sent.{Sent}
 use Rattle.session.specs.State.{Outcome, refused, done}
 use Rattle.session.specs.Reading.{reading}
 use Rattle.control.specs.declared.Link.{Link}
-use Rattle.answers.specs.declared.Answer.{Answer}
-use Rattle.answers.specs.declared.Answer.TheVariants as answer
-use Rattle.answers.specs.declared.Count.{Count}
-use Rattle.answers.specs.declared.Count.TheVariants as count
-use Rattle.answers.specs.declared.Update.{Update}
-use Rattle.answers.specs.declared.Update.TheVariants as update
-use Rattle.answers.specs.declared.Time.{Time}
-use Rattle.answers.specs.declared.Time.TheVariants as time
 use Rattle.promises.specs.Parts.{Parts, FlushParts, state_in}
 use Rattle.promises.specs.Answers.{count_outcome, time_outcome}
 use Rattle.promises.specs.Promises.{OpenPromise, SendPromise, InputPromise, WrittenTo, FlushPromise, UpdatePromise, CheckPromise, ReadPromise, SizePromise, ShowPromise, LiesAt}
@@ -35,6 +27,7 @@ use Rattle.wrong_links.specs.Standing.{Lends, At}
 use Rattle.wrong_links.specs.StandingLaws.{opening_goes, send_goes, input_goes, flush_goes, update_goes, update_waits, check_goes, read_goes, read_refused, size_goes, show_goes}
 use Rattle.wrong_links.specs.Session as session
 use Rattle.wrong_links.specs.Session.{is_done, result_or, settings, send_pool, receive_pool, fresh, first, second, one_sent, both_sent, flush, flushed, updated, rested, later_update, datagrams, acks, acknowledged, one_heard, both_heard, one_read, both_read, reads, all_pass, computed}
+use Rattle.answers.specs.Answers.{Answer, Count, Update, Time}
 
 -- an outcome that is not refused is its result
 is_result : {A : Type 0} (x : A) (o : Outcome A) → is_done o ≡ true → o ≡ done (result_or x o)
@@ -42,32 +35,32 @@ is_result x (done y) h = refl
 is_result x (refused r) h = absurd (let z : ◌≡◌ {A = ℕ} 0 1 = cc in omega arith)
 
 -- the time of an outcome
-time_at : (a : Time) (t : ℕ) → time_outcome a ≡ done t → a ≡ time.At t
-time_at (time.At n) t e = cc
-time_at (time.Refused r) t e = absurd (let z : ◌≡◌ {A = ℕ} 0 1 = cc in omega arith)
+time_at : (a : Time) (t : ℕ) → time_outcome a ≡ done t → a ≡ Ok t
+time_at (Ok n) t e = cc
+time_at (Err r) t e = absurd (let z : ◌≡◌ {A = ℕ} 0 1 = cc in omega arith)
 
 -- the count of an outcome
-count_done : (a : Count) (n : ℕ) → count_outcome a ≡ done n → a ≡ count.Of n
-count_done (count.Of k) n e = cc
-count_done (count.Refused r) n e = absurd (let z : ◌≡◌ {A = ℕ} 0 1 = cc in omega arith)
+count_done : (a : Count) (n : ℕ) → count_outcome a ≡ done n → a ≡ Ok n
+count_done (Ok k) n e = cc
+count_done (Err r) n e = absurd (let z : ◌≡◌ {A = ℕ} 0 1 = cc in omega arith)
 
-count_refused : (a : Count) (r : Refusal) → count_outcome a ≡ refused r → a ≡ count.Refused r
-count_refused (count.Of k) r e = absurd (let z : ◌≡◌ {A = ℕ} 0 1 = cc in omega arith)
-count_refused (count.Refused x) r e = cc
+count_refused : (a : Count) (r : Refusal) → count_outcome a ≡ refused r → a ≡ Err r
+count_refused (Ok k) r e = absurd (let z : ◌≡◌ {A = ℕ} 0 1 = cc in omega arith)
+count_refused (Err x) r e = cc
 
 module _ (l : Link) (p : Parts) (l' : Link) (p' : Parts) where
   -- ---- opening
 
-  pub opens : (a : Answer) → Lends p send_pool receive_pool → OpenPromise settings l p a l' p' → (a ≡ answer.Accepted) × At l' p' fresh
+  pub opens : (a : Answer) → Lends p send_pool receive_pool → OpenPromise settings l p a l' p' → (a ≡ Ok tt) × At l' p' fresh
   opens a lends h = opening_goes settings l p l' p' fresh a lends computed.opens h
 
   -- ---- the sender
 
-  pub send_first : (a : Answer) → At l p fresh → SendPromise first l p a l' p' → (a ≡ answer.Accepted) × At l' p' one_sent
+  pub send_first : (a : Answer) → At l p fresh → SendPromise first l p a l' p' → (a ≡ Ok tt) × At l' p' one_sent
   unfolding one_sent
   send_first a at h = send_goes l p fresh at all_pass.at_first first a l' p' _ (is_result _ _ computed.sends_first) h
 
-  pub send_second : (a : Answer) → At l p one_sent → SendPromise second l p a l' p' → (a ≡ answer.Accepted) × At l' p' both_sent
+  pub send_second : (a : Answer) → At l p one_sent → SendPromise second l p a l' p' → (a ≡ Ok tt) × At l' p' both_sent
   unfolding both_sent
   send_second a at h = send_goes l p one_sent at all_pass.one_sent_lem second a l' p' _ (is_result _ _ computed.sends_second) h
 
@@ -76,7 +69,7 @@ module _ (l : Link) (p : Parts) (l' : Link) (p' : Parts) where
       → leb output_least (length f.output) ≡ true
       → leb lengths_least (length f.lengths) ≡ true
       → FlushPromise 5 l p f a l' p' f'
-      → (a ≡ count.Of 2) × At l' p' flushed × WrittenTo datagrams 2 f f'
+      → (a ≡ Ok 2) × At l' p' flushed × WrittenTo datagrams 2 f f'
   unfolding flushed datagrams flush
   flush_both a f f' at room number h =
       let r = flush_goes l p both_sent at all_pass.both_sent_lem 5 f a l' p' f' flush room number refl h in
@@ -86,7 +79,7 @@ module _ (l : Link) (p : Parts) (l' : Link) (p' : Parts) where
       (number : leb lengths_least (length f.lengths) ≡ true) where
     -- the first update writes the same
     pub update_first : (a : Update) → At l p both_sent → UpdatePromise 5 l p f a l' p' f'
-        → (a ≡ update.Wrote 2) × At l' p' updated × WrittenTo datagrams 2 f f'
+        → (a ≡ Ok (Some 2)) × At l' p' updated × WrittenTo datagrams 2 f f'
     unfolding updated
     update_first a at h =
         let r =
@@ -96,14 +89,14 @@ module _ (l : Link) (p : Parts) (l' : Link) (p' : Parts) where
 
     -- the next one waits, and changes no lent byte
     pub update_next : (a : Update) → At l p updated → UpdatePromise 6 l p f a l' p' f'
-        → (a ≡ update.Waited) × At l' p' rested × (p' ≡ p) × (f' ≡ f)
+        → (a ≡ Ok None) × At l' p' rested × (p' ≡ p) × (f' ≡ f)
     unfolding rested
     update_next a at h =
         update_waits l p updated at all_pass.one_updated 6 f a l' p' f' room number h rested.state
         computed.updates_waiting
 
     -- the one after it flushes and writes nothing, which is another answer
-    pub update_later : (a : Update) → At l p rested → UpdatePromise 105 l p f a l' p' f' → a ≡ update.Wrote 0
+    pub update_later : (a : Update) → At l p rested → UpdatePromise 105 l p f a l' p' f' → a ≡ Ok (Some 0)
     update_later a at h =
         rw computed.later_none at
         (update_goes l p rested at all_pass.one_rested 105 f a l' p' f' room number h later_update
@@ -111,7 +104,7 @@ module _ (l : Link) (p : Parts) (l' : Link) (p' : Parts) where
 
   -- of the segments 0, 1 and 2 only the last is left outstanding
   pub input_acks : (a : Answer) → At l p flushed → InputPromise acks l p a l' p'
-      → (a ≡ answer.Accepted) × (map (λ (x : Sent). x.record.number) (state_in l' p').sending.outstanding ≡ 2 ∷ [])
+      → (a ≡ Ok tt) × (map (λ (x : Sent). x.record.number) (state_in l' p').sending.outstanding ≡ 2 ∷ [])
   unfolding acknowledged
   input_acks a at h =
       let r = input_goes l p flushed at all_pass.one_flushed acks a l' p' _ (is_result _ _ computed.takes_acks) h in
@@ -119,18 +112,18 @@ module _ (l : Link) (p : Parts) (l' : Link) (p' : Parts) where
 
   -- ---- the receiver
 
-  pub input_first : (a : Answer) → At l p fresh → InputPromise (get_or datagrams 0 []) l p a l' p' → (a ≡ answer.Accepted) × At l' p' one_heard
+  pub input_first : (a : Answer) → At l p fresh → InputPromise (get_or datagrams 0 []) l p a l' p' → (a ≡ Ok tt) × At l' p' one_heard
   unfolding one_heard
   input_first a at h = input_goes l p fresh at all_pass.at_first _ a l' p' _ (is_result _ _ computed.takes_first) h
 
   pub input_second : (a : Answer) → At l p one_heard → InputPromise (get_or datagrams 1 []) l p a l' p'
-      → (a ≡ answer.Accepted) × At l' p' both_heard
+      → (a ≡ Ok tt) × At l' p' both_heard
   unfolding both_heard
   input_second a at h = input_goes l p one_heard at all_pass.one_heard_lem _ a l' p' _ (is_result _ _ computed.takes_second) h
 
   -- into any buffer of 30 bytes
   pub read_first : (a : Count) (buffer buffer' : List ℕ) → length buffer ≡ 30 → At l p both_heard → ReadPromise l p buffer a l' p' buffer'
-      → (a ≡ count.Of 27) × At l' p' one_read × (buffer' ≡ sets buffer 0 first)
+      → (a ≡ Ok 27) × At l' p' one_read × (buffer' ≡ sets buffer 0 first)
   unfolding one_read first
   read_first a buffer buffer' room at h =
       let e : reading both_heard.state both_heard.receive_pool (length buffer) ≡ done (reads both_heard) =
@@ -138,7 +131,7 @@ module _ (l : Link) (p : Parts) (l' : Link) (p' : Parts) where
       rw computed.message_first at (read_goes l p both_heard at all_pass.both_heard_lem buffer a l' p' buffer' _ e h)
 
   pub read_second_lem : (a : Count) (buffer buffer' : List ℕ) → length buffer ≡ 30 → At l p one_read → ReadPromise l p buffer a l' p' buffer'
-      → (a ≡ count.Of 1) × At l' p' both_read × (buffer' ≡ sets buffer 0 second)
+      → (a ≡ Ok 1) × At l' p' both_read × (buffer' ≡ sets buffer 0 second)
   unfolding both_read second
   read_second_lem a buffer buffer' room at h =
       let e : reading one_read.state one_read.receive_pool (length buffer) ≡ done (reads one_read) =
@@ -146,7 +139,7 @@ module _ (l : Link) (p : Parts) (l' : Link) (p' : Parts) where
       rw computed.message_second at (read_goes l p one_read at all_pass.one_read_lem buffer a l' p' buffer' _ e h)
 
   pub read_none : (a : Count) (buffer buffer' : List ℕ) → length buffer ≡ 30 → At l p both_read → ReadPromise l p buffer a l' p' buffer'
-      → a ≡ count.Refused NoMessage
+      → a ≡ Err NoMessage
   read_none a buffer buffer' room at h =
       (read_refused l p both_read at all_pass.both_read_lem buffer a l' p' buffer' NoMessage (rw room computed.reads_none) h).0
 
@@ -154,10 +147,10 @@ module _ (l : Link) (p : Parts) (l' : Link) (p' : Parts) where
 
 module _ (l : Link) (p : Parts) where
   -- a segment of the first message is still missing
-  pub size_none : (a : Count) → At l p one_heard → SizePromise l p a → a ≡ count.Refused NoMessage
+  pub size_none : (a : Count) → At l p one_heard → SizePromise l p a → a ≡ Err NoMessage
   size_none a at h = count_refused a NoMessage (size_goes l p one_heard at all_pass.one_heard_lem a h ∙ computed.size_none)
 
-  pub size_first : (a : Count) → At l p both_heard → SizePromise l p a → a ≡ count.Of 27
+  pub size_first : (a : Count) → At l p both_heard → SizePromise l p a → a ≡ Ok 27
   size_first a at h = count_done a 27 (size_goes l p both_heard at all_pass.both_heard_lem a h ∙ computed.size_first)
 
   -- the very part: the first segment in the pool's first slot, and the message behind it two slots further on
@@ -174,8 +167,8 @@ module _ (l : Link) (p : Parts) where
       (rw computed.shown_second.0 at r.place, r.bytes ∙ computed.shown_second.1)
 
   -- before the first update now; then the next flush time
-  pub check_first : (a : Time) → At l p both_sent → CheckPromise 5 l p a → a ≡ time.At 5
+  pub check_first : (a : Time) → At l p both_sent → CheckPromise 5 l p a → a ≡ Ok 5
   check_first a at h = time_at a 5 (check_goes l p both_sent at all_pass.both_sent_lem 5 a h ∙ ap done computed.checks_first)
 
-  pub check_later : (a : Time) → At l p rested → CheckPromise 6 l p a → a ≡ time.At 105
+  pub check_later : (a : Time) → At l p rested → CheckPromise 6 l p a → a ≡ Ok 105
   check_later a at h = time_at a 105 (check_goes l p rested at all_pass.one_rested 6 a h ∙ ap done computed.checks_later)

@@ -3,7 +3,7 @@ use mathlib.Core.Path.{sym, ◌∙◌}
 use borrow.Author.Rules.{rules}
 use Rattle.control.specs.Views.{arrays}
 use Rattle.std.proofs.Common.{ap, not}
-use Rattle.checking.proofs.Turns.{none_whole, not-true, not-false}
+use Rattle.checking.proofs.Turns.{none_whole}
 use Rattle.checking.proofs.Whole.{unfit, unsent, sent_fits_lem}
 use Rattle.checking.proofs.sound.Goals as goal
 

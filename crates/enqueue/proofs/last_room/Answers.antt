@@ -13,7 +13,7 @@ returns-then-n-gt0 c =
       arith,
       room_some c.args.stream stream c.args.mss c.args.queued.now c.args.n some (omega (arith, c.requires.0, c.requires.1)),
       c.least.ensures,
-      ap (λ (h : Held). h.len) c.unpacked-last.ensures,
+      ap (λ (h : Held). h.len) c.from-last.ensures,
     )
 
 pub returns-else-n-gt0 : goal.returns-else-n-gt0

@@ -24,8 +24,8 @@ loop-left-init c =
 slot_low : (c : goal.In-loop-left) → next_free c.args.marks.now c.loop-left.slot < 128
 slot_low c = let v = c.loop-left.invariant in next_low (v.5 v.4.marked) c.loop-left-test.true
 
-pub free_to_send-slot-requires : goal.free_to_send-slot-requires
-free_to_send-slot-requires c = let v = c.loop-left.invariant in (v.4.marks_whole, v.3, omega (arith, slot_low c))
+pub free_from-slot-requires : goal.free_from-slot-requires
+free_from-slot-requires c = let v = c.loop-left.invariant in (omega arith, omega (arith, slot_low c))
 
 pub store-len-requires : goal.store-len-requires
 store-len-requires c = let v = c.loop-left.invariant in (
@@ -34,7 +34,7 @@ store-len-requires c = let v = c.loop-left.invariant in (
     arith,
     (let slot_low' : next_free c.args.marks.now c.loop-left.slot < 128 = let v = c.loop-left.invariant in
         next_low (v.5 v.4.marked) c.loop-left-test.true in slot_low'),
-    c.free_to_send-slot.ensures,
+    c.free_from-slot.ensures,
   ),
   omega (arith, v.1, v.4.slots),
 )
@@ -43,12 +43,12 @@ store-len-requires c = let v = c.loop-left.invariant in (
 short : (c : goal.After-fragment_of) → c.store-len.result < 65536
 short c = omega (arith, stored_short c.store-len.ensures, c.loop-left.invariant.4.word)
 
-found : (c : goal.After-fragment_of) → c.free_to_send-slot.result < 128
+found : (c : goal.After-fragment_of) → c.free_from-slot.result < 128
 found c = omega (
   arith,
   (let slot_low' : next_free c.args.marks.now c.loop-left.slot < 128 = let v = c.loop-left.invariant in
       next_low (v.5 v.4.marked) c.loop-left-test.true in slot_low'),
-  c.free_to_send-slot.ensures,
+  c.free_from-slot.ensures,
 )
 
 pub word_of-requires : goal.word_of-requires
@@ -68,18 +68,18 @@ pub loop-left-preserved : goal.loop-left-preserved
 loop-left-preserved c =
     let v = c.loop-left.invariant in
     let s = c.store-len.ensures in
-    let f = c.free_to_send-slot.ensures in
+    let f = c.free_from-slot.ensures in
     let t = c.loop-left-test.true in (
       stored_within s v.0,
       search rules,
       search rules,
       omega (
         arith,
-        (let found' : c.free_to_send-slot.result < 128 = omega (
+        (let found' : c.free_from-slot.result < 128 = omega (
           arith,
           (let slot_low' : next_free c.args.marks.now c.loop-left.slot < 128 = let v = c.loop-left.invariant in
               next_low (v.5 v.4.marked) c.loop-left-test.true in slot_low'),
-          c.free_to_send-slot.ensures,
+          c.free_from-slot.ensures,
         ) in found'),
       ),
       v.4,

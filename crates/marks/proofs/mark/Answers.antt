@@ -1,17 +1,12 @@
--- `mark`: the words before index i are marked.
-use Prim.Native.Nat.{◌-◌}
-use native.Mathlib.Omega.{arith}
-use borrow.Author.Rules.{rules}
-use Rattle.marks.proofs.Turns.{marking_next, marking_end}
+-- `mark`: the words before the index are marked.
+use Rattle.marks.proofs.Turns.{marking_next, marking_end, low_at}
 use Rattle.marks.proofs.mark.Goals as goal
 
-pub loop-i-preserved : goal.loop-i-preserved
-loop-i-preserved c =
-    let v = c.loop-i in (
-      search rules,
-      marking_next v.invariant.1 c.slot_of-slot.result c.slot_of-slot.ensures.0
-          c.loop-i-test.true (omega (arith, c.requires)),
-    )
+pub bounds-marks-slot_of : goal.bounds-marks-slot_of
+bounds-marks-slot_of g c = rw c.slot_of.ensures.0 (low_at g.row.S _ _ c.requires c.loop-word-test.true)
+
+pub loop-word-preserved : goal.loop-word-preserved
+loop-word-preserved g c = marking_next c.loop-word.invariant _ c.slot_of.ensures.0 c.loop-word-test.true
 
 pub returns : goal.returns
-returns c = marking_end c.loop-i.invariant.1 c.loop-i-test.false
+returns g c = marking_end c.loop-word.invariant c.loop-word-test.false

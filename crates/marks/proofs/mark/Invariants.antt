@@ -1,10 +1,6 @@
--- `mark`: the words before index i are marked.
-use Prim.Native.Nat.{◌-◌, ◌≤◌}
+-- `mark`: the words before the index are marked.
 use Rattle.marks.proofs.Turns.{Marking}
 use Rattle.marks.proofs.mark.Given as goal
 
-abbrev pub invariant-loop-i : goal.invariant-loop-i
-invariant-loop-i l = (l.i ≤ l.n) × Marking 256 l.initial.marks l.words l.n l.marks l.twice l.i
-
-abbrev pub decreases-loop-i : goal.decreases-loop-i
-decreases-loop-i l = l.n - l.i
+abbrev pub invariant-loop-word : goal.invariant-loop-word
+invariant-loop-word g l = Marking g.row.S l.initial.marks l.words l.marks l.once l.word-index

@@ -46,7 +46,7 @@ front_place-requires c =
     s.requires.2.1.0 verdict.judged-verdict.result = λ rs w. let s = verdict in
     admitted (let a = s.args in link_of a.settings a.flight a.arrival a.clock
     (arrays a.queued.now a.outstanding.now a.transmissions.now a.ready.now a.waiting.now a.waiting_numbers.now)) rs _ _ _ s.args.sound
-    s.args.flown _ verdict.judged-verdict.ensures s.requires.2.1.1 w in judged') s.requires.1.0 s.requires.1.1).verdict k.in-Passed.is
+    s.args.flown _ verdict.judged-verdict.ensures s.requires.2.1.1 w in judged') s.requires.1.0 s.requires.1.1).verdict k.in-Ok.is
     s.args.receive_pool.now refl in passed') in (
       s.requires.0.whole_ready,
       (block_counts (let a = s.args in link_of a.settings a.flight a.arrival a.clock
@@ -55,9 +55,9 @@ front_place-requires c =
       rw c.mss.ensures ok.mss_low,
     )
 
-pub returns-in-Passed : goal.returns-in-Passed
+pub returns-in-Ok : goal.returns-in-Ok
 unfolding shows_with
-returns-in-Passed c = λ rs w.
+returns-in-Ok c = λ rs w.
     let k = c in
     let verdict = k in
     let s = verdict in
@@ -68,7 +68,7 @@ returns-in-Passed c = λ rs w.
     (arrays a.queued.now a.outstanding.now a.transmissions.now a.ready.now a.waiting.now a.waiting_numbers.now)) rs s.args.acks.now
     (let a = s.args in lent_lengths a.table a.send_pool.now a.receive_pool.now a.acks.now) _ verdict.enough-long.ensures _
     (judged verdict rs w).verdict
-    k.in-Passed.is) (let passed' : let s = k in
+    k.in-Ok.is) (let passed' : let s = k in
     Readable (let a = s.args in link_of a.settings a.flight a.arrival a.clock
     (arrays a.queued.now a.outstanding.now a.transmissions.now a.ready.now a.waiting.now a.waiting_numbers.now))
     s.args.receive_pool.now = let verdict = k in
@@ -76,12 +76,12 @@ returns-in-Passed c = λ rs w.
     passes_readable (let a = s.args in link_of a.settings a.flight a.arrival a.clock
     (arrays a.queued.now a.outstanding.now a.transmissions.now a.ready.now a.waiting.now a.waiting_numbers.now)) s.requires.1.0
     s.args.acks.now (let a = s.args in lent_lengths a.table a.send_pool.now a.receive_pool.now a.acks.now) _ verdict.enough-long.ensures _
-    (judged verdict s.requires.1.0 s.requires.1.1).verdict k.in-Passed.is s.args.receive_pool.now refl in passed') _ c.mss.ensures _
+    (judged verdict s.requires.1.0 s.requires.1.1).verdict k.in-Ok.is s.args.receive_pool.now refl in passed') _ c.mss.ensures _
     c.front_place.ensures
 
-pub returns-in-Refused : goal.returns-in-Refused
+pub returns-in-Err : goal.returns-in-Err
 unfolding shows_with
-returns-in-Refused c = λ rs w.
+returns-in-Err c = λ rs w.
     let verdict = c in
     let s = verdict in
     unplaced _ _ (refuses (let a = s.args in link_of a.settings a.flight a.arrival a.clock
@@ -96,4 +96,4 @@ returns-in-Refused c = λ rs w.
     admitted (let a = s.args in link_of a.settings a.flight a.arrival a.clock
     (arrays a.queued.now a.outstanding.now a.transmissions.now a.ready.now a.waiting.now a.waiting_numbers.now)) rs _ _ _ s.args.sound
     s.args.flown _ verdict.judged-verdict.ensures s.requires.2.1.1 w in judged') rs w).verdict
-    _ _ c.in-Refused.is) (length s.args.receive_pool.now)
+    _ _ c.in-Err.is) (length s.args.receive_pool.now)

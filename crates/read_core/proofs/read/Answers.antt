@@ -13,7 +13,7 @@ use Rattle.read_core.specs.Messages.{Readable}
 use Rattle.read_core.proofs.read.Goals as goal
 
 -- the verdict on 7 and 13
-judged : (c : goal.After-slice_known-in-Passed-1) (rs : List Record) → let sizes = c in let s = sizes in
+judged : (c : goal.After-slice_known-in-Ok-1) (rs : List Record) → let sizes = c in let s = sizes in
     Flown (let a = s.args in link_of a.settings a.flight a.arrival a.clock
     (arrays a.queued.now a.outstanding.now a.transmissions.now a.ready.now a.waiting.now a.waiting_numbers.now)) rs s.args.flown
     → Admitted sizes.enough-long.result (let a = s.args in link_of a.settings a.flight a.arrival a.clock
@@ -48,7 +48,7 @@ read_message-requires c =
     s.requires.2.1.0 verdict.judged-verdict.result = λ rs w. let s = verdict in
     admitted (let a = s.args in link_of a.settings a.flight a.arrival a.clock
     (arrays a.queued.now a.outstanding.now a.transmissions.now a.ready.now a.waiting.now a.waiting_numbers.now)) rs _ _ _ s.args.sound
-    s.args.flown _ verdict.judged-verdict.ensures s.requires.2.1.1 w in judged') s.requires.1.0 s.requires.1.1).verdict k.in-Passed.is
+    s.args.flown _ verdict.judged-verdict.ensures s.requires.2.1.1 w in judged') s.requires.1.0 s.requires.1.1).verdict k.in-Ok.is
     s.args.receive_pool.now refl in passed').counts in (
       record { whole_ready = w.whole_ready; whole_waiting = w.whole_waiting; whole_numbers = w.whole_numbers },
       record { few_ready = n.ready; few_waiting = n.waiting },
@@ -69,13 +69,13 @@ read_message-requires c =
           s.requires.2.1.0 verdict.judged-verdict.result = λ rs w. let s = verdict in
           admitted (let a = s.args in link_of a.settings a.flight a.arrival a.clock
           (arrays a.queued.now a.outstanding.now a.transmissions.now a.ready.now a.waiting.now a.waiting_numbers.now)) rs _ _ _ s.args.sound
-          s.args.flown _ verdict.judged-verdict.ensures s.requires.2.1.1 w in judged') s.requires.1.0 s.requires.1.1).verdict k.in-Passed.is
+          s.args.flown _ verdict.judged-verdict.ensures s.requires.2.1.1 w in judged') s.requires.1.0 s.requires.1.1).verdict k.in-Ok.is
           s.args.receive_pool.now refl in passed').inside,
     )
 
-pub returns-in-Passed : goal.returns-in-Passed
+pub returns-in-Ok : goal.returns-in-Ok
 unfolding reads_with
-returns-in-Passed c = λ rs w.
+returns-in-Ok c = λ rs w.
     let reads = c in
     let mss = reads in
     let k = mss in
@@ -87,7 +87,7 @@ returns-in-Passed c = λ rs w.
     (passes (let a = s.args in link_of a.settings a.flight a.arrival a.clock
     (arrays a.queued.now a.outstanding.now a.transmissions.now a.ready.now a.waiting.now a.waiting_numbers.now)) rs a.acks.now
     (let a = s.args in lent_lengths a.table a.send_pool.now a.receive_pool.now a.acks.now) _ verdict.enough-long.ensures _
-    (judged verdict rs w).verdict k.in-Passed.is)
+    (judged verdict rs w).verdict k.in-Ok.is)
     (reads_block a.settings a.flight a.arrival a.clock a.queued.now a.outstanding.now a.transmissions.now
     a.ready.now a.waiting.now a.waiting_numbers.now _ a.acks.now a.receive_pool.now a.buffer.now _ _ _ _ _ _ _
     mss.mss-mss.ensures (let passed' : let s = k in
@@ -98,12 +98,12 @@ returns-in-Passed c = λ rs w.
     passes_readable (let a = s.args in link_of a.settings a.flight a.arrival a.clock
     (arrays a.queued.now a.outstanding.now a.transmissions.now a.ready.now a.waiting.now a.waiting_numbers.now)) s.requires.1.0
     s.args.acks.now (let a = s.args in lent_lengths a.table a.send_pool.now a.receive_pool.now a.acks.now) _ verdict.enough-long.ensures _
-    (judged verdict s.requires.1.0 s.requires.1.1).verdict k.in-Passed.is s.args.receive_pool.now refl in passed')
+    (judged verdict s.requires.1.0 s.requires.1.1).verdict k.in-Ok.is s.args.receive_pool.now refl in passed')
     reads.read_message.ensures)
 
-pub returns-in-Refused : goal.returns-in-Refused
+pub returns-in-Err : goal.returns-in-Err
 unfolding reads_with
-returns-in-Refused c = λ rs w.
+returns-in-Err c = λ rs w.
     let verdict = c in
     let s = verdict in
     not_read _ _ (refuses (let a = s.args in link_of a.settings a.flight a.arrival a.clock
@@ -118,5 +118,5 @@ returns-in-Refused c = λ rs w.
     admitted (let a = s.args in link_of a.settings a.flight a.arrival a.clock
     (arrays a.queued.now a.outstanding.now a.transmissions.now a.ready.now a.waiting.now a.waiting_numbers.now)) rs _ _ _ s.args.sound
     s.args.flown _ verdict.judged-verdict.ensures s.requires.2.1.1 w in judged') rs w).verdict
-    _ _ c.in-Refused.is) (let a = s.args in link_of a.settings a.flight a.arrival a.clock
+    _ _ c.in-Err.is) (let a = s.args in link_of a.settings a.flight a.arrival a.clock
     (arrays a.queued.now a.outstanding.now a.transmissions.now a.ready.now a.waiting.now a.waiting_numbers.now)) _ _ s.args.buffer.now

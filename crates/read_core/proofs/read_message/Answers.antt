@@ -10,5 +10,5 @@ take-after-requires c =
       p.0,
       p.1,
       p.2,
-      (fitting_fits _ _ _ (sym (ap count_outcome c.in-Of.is) ∙ c.fitting-found.ensures)).0,
+      (fitting_fits _ _ _ (sym (ap count_outcome c.in-Ok.is) ∙ c.fitting-found.ensures)).0,
     )

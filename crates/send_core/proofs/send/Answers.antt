@@ -11,7 +11,7 @@ use Rattle.send_core.proofs.Sends.{Sendable, sendable, refuses, enqueueable, sen
 use Rattle.send_core.proofs.send.Goals as goal
 
 -- the verdict on 7 and 13
-judged : (c : goal.In-Refused) (rs : List Record) → let sizes = c in let s = sizes in
+judged : (c : goal.In-Err) (rs : List Record) → let sizes = c in let s = sizes in
     Flown (let a = s.args in link_of a.settings a.flight a.arrival a.clock
     (let a = s.args in arrays a.queued.now a.outstanding.now a.transmissions.now a.ready.now a.waiting.now
     a.waiting_numbers.now)) rs s.args.flown
@@ -56,21 +56,21 @@ send_checked-requires c =
     sendable s.args.settings s.args.flight s.args.arrival s.args.clock
     (let a = s.args in arrays a.queued.now a.outstanding.now a.transmissions.now a.ready.now a.waiting.now
     a.waiting_numbers.now) rs s.args.acks.now (let a = s.args in lent_lengths a.table a.send_pool.now a.receive_pool.now a.acks.now) _ _
-    verdict.enough-long.ensures (a.verdict _) passed.in-Passed.is
-    s.args.send_marks.now s.requires.2.0 (a.checked passed.in-Passed.is) s.requires.0 w.whole in checked') s.requires.1.0 s.requires.1.1)
+    verdict.enough-long.ensures (a.verdict _) passed.in-Ok.is
+    s.args.send_marks.now s.requires.2.0 (a.checked passed.in-Ok.is) s.requires.0 w.whole in checked') s.requires.1.0 s.requires.1.1)
     {stream = is_stream s.args.settings} refl mss.mss-mss.ensures s.requires.0 _ refl
 
-pub returns-in-Refused : goal.returns-in-Refused
-returns-in-Refused c = λ rs w.
+pub returns-in-Err : goal.returns-in-Err
+returns-in-Err c = λ rs w.
     let verdict = c in
     let s = verdict in
     refuses s.args.settings s.args.flight s.args.arrival s.args.clock
     (let a = s.args in arrays a.queued.now a.outstanding.now a.transmissions.now a.ready.now a.waiting.now
     a.waiting_numbers.now) rs s.args.acks.now (let a = s.args in lent_lengths a.table a.send_pool.now a.receive_pool.now a.acks.now) _ _
-    verdict.enough-long.ensures ((judged verdict rs w).verdict _) _ _ _ c.in-Refused.is
+    verdict.enough-long.ensures ((judged verdict rs w).verdict _) _ _ _ c.in-Err.is
 
-pub returns-in-Passed : goal.returns-in-Passed
-returns-in-Passed c = λ rs w.
+pub returns-in-Ok : goal.returns-in-Ok
+returns-in-Ok c = λ rs w.
     let sends = c in
     let mss = sends in
     let passed = mss in
@@ -90,7 +90,7 @@ returns-in-Passed c = λ rs w.
     admitted (let a = s.args in link_of a.settings a.flight a.arrival a.clock
     (let a = s.args in arrays a.queued.now a.outstanding.now a.transmissions.now a.ready.now a.waiting.now
     a.waiting_numbers.now)) rs _ _ _ s.args.sound s.args.flown _ verdict.judged-verdict.ensures s.requires.2.1 w in judged') rs w).verdict
-    _) passed.in-Passed.is _ _ _ _ _
+    _) passed.in-Ok.is _ _ _ _ _
     (sent s.args.settings s.args.flight s.args.arrival s.args.clock
     (let a = s.args in arrays a.queued.now a.outstanding.now a.transmissions.now a.ready.now a.waiting.now
     a.waiting_numbers.now) rs s.args.acks.now ((let checked' : (rs : List Record) → let s = passed in
@@ -116,6 +116,6 @@ returns-in-Passed c = λ rs w.
     sendable s.args.settings s.args.flight s.args.arrival s.args.clock
     (let a = s.args in arrays a.queued.now a.outstanding.now a.transmissions.now a.ready.now a.waiting.now
     a.waiting_numbers.now) rs s.args.acks.now (let a = s.args in lent_lengths a.table a.send_pool.now a.receive_pool.now a.acks.now) _ _
-    verdict.enough-long.ensures (a.verdict _) passed.in-Passed.is
-    s.args.send_marks.now s.requires.2.0 (a.checked passed.in-Passed.is) s.requires.0 w.whole in checked') rs w)
+    verdict.enough-long.ensures (a.verdict _) passed.in-Ok.is
+    s.args.send_marks.now s.requires.2.0 (a.checked passed.in-Ok.is) s.requires.0 w.whole in checked') rs w)
     (is_stream s.args.settings) _ refl mss.mss-mss.ensures _ _ sends.send_checked.result _ _ sends.send_checked.ensures)

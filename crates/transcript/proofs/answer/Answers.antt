@@ -3,10 +3,10 @@ use Rattle.notation.specs.Ascii.{ascii}
 use Rattle.transcript.specs.Lines.{answer_line}
 use Rattle.transcript.proofs.answer.Goals as goal
 
-pub returns-in-Accepted : goal.returns-in-Accepted
+pub returns-in-Ok : goal.returns-in-Ok
 unfolding answer_line ascii
-returns-in-Accepted c = rw c.in-Accepted.is c.bytes.ensures
+returns-in-Ok c = rw c.in-Ok.is c.bytes.ensures
 
-pub returns-in-Refused : goal.returns-in-Refused
+pub returns-in-Err : goal.returns-in-Err
 unfolding answer_line
-returns-in-Refused c = rw c.in-Refused.is c.refused.ensures
+returns-in-Err c = rw c.in-Err.is c.refused.ensures

@@ -3,10 +3,10 @@ use Rattle.notation.specs.Ascii.{ascii}
 use Rattle.transcript.specs.Lines.{count_line}
 use Rattle.transcript.proofs.count.Goals as goal
 
-pub returns-in-Of : goal.returns-in-Of
+pub returns-in-Ok : goal.returns-in-Ok
 unfolding count_line ascii
-returns-in-Of c = rw c.in-Of.is c.number_line.ensures
+returns-in-Ok c = rw c.in-Ok.is c.number_line.ensures
 
-pub returns-in-Refused : goal.returns-in-Refused
+pub returns-in-Err : goal.returns-in-Err
 unfolding count_line
-returns-in-Refused c = rw c.in-Refused.is c.refused.ensures
+returns-in-Err c = rw c.in-Err.is c.refused.ensures

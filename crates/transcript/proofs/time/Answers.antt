@@ -3,10 +3,10 @@ use Rattle.notation.specs.Ascii.{ascii}
 use Rattle.transcript.specs.Lines.{time_line}
 use Rattle.transcript.proofs.time.Goals as goal
 
-pub returns-in-At : goal.returns-in-At
+pub returns-in-Ok : goal.returns-in-Ok
 unfolding time_line ascii
-returns-in-At c = rw c.in-At.is c.number_line.ensures
+returns-in-Ok c = rw c.in-Ok.is c.number_line.ensures
 
-pub returns-in-Refused : goal.returns-in-Refused
+pub returns-in-Err : goal.returns-in-Err
 unfolding time_line
-returns-in-Refused c = rw c.in-Refused.is c.refused.ensures
+returns-in-Err c = rw c.in-Err.is c.refused.ensures

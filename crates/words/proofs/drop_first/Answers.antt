@@ -1,8 +1,7 @@
 -- `drop_first` moves the words from k on to the front.
-use Prim.Native.Nat.{◌-◌}
-use native.Mathlib.Omega.{arith}
-use Rattle.lists.proofs.Writes.{packed_move}
+use borrow.Author.Rules.{rules}
+use Rattle.words.proofs.Fronts.{front_moved}
 use Rattle.words.proofs.drop_first.Goals as goal
 
-pub loop-i-preserved : goal.loop-i-preserved
-loop-i-preserved c = (packed_move _ c.loop-i-test.true c.loop-i.invariant.0, omega arith)
+pub returns : goal.returns
+returns g c = rw c.copy_within.ensures.after (front_moved c.args.list.now c.args.n (search rules) c.args.k c.requires.0 c.requires.1)

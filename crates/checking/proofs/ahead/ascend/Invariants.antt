@@ -1,13 +1,7 @@
 -- `ascend`: the neighbours before index i are tested.
-use mathlib.Core.Path.{◌≡◌}
-use mathlib.Core.Bool.{◌&&◌}
-use Prim.Native.Nat.{◌-◌, ◌≤◌}
-use lib.ListN.{take, drop}
+use Rattle.std.proofs.Common.{◌≡◌, ◌&&◌, ◌-◌, drop}
 use Rattle.checking.specs.Tests.{neighbours}
 use Rattle.checking.proofs.ahead.ascend.Given as goal
 
 abbrev pub invariant-loop-i : goal.invariant-loop-i
-invariant-loop-i l = (1 ≤ l.i) × (neighbours (take l.n l.numbers) ≡ (l.fit && neighbours (drop (l.i - 1) (take l.n l.numbers))))
-
-abbrev pub decreases-loop-i : goal.decreases-loop-i
-decreases-loop-i l = l.n - l.i
+invariant-loop-i l = neighbours l.numbers ≡ (l.fit && neighbours (drop (l.i - 1) l.numbers))

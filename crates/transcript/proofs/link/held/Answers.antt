@@ -18,7 +18,7 @@ loop-i-preserved c =
     let l = c.loop-i in
     let a = c.args in
     let whole : length a.words ≡ 128 = search rules in
-    let here = c.unpacked-h.ensures ∙ sym (get_or-map unpack a.words l.i 0) in (
+    let here = c.from-h.ensures ∙ sym (get_or-map unpack a.words l.i 0) in (
       omega arith,
       l.invariant.1,
       each_put (held_entry a.letter) (map unpack a.words) l.i _ _ _ _ _ _ _

@@ -24,7 +24,7 @@ loop-i-preserved c =
     let inside : l.i < 32 = omega arith in
     let all = paired_length outstanding_at a.words a.transmissions 32 whole beside in
     let here = ap (λ (h : Held). record { held = h; transmissions = get_or a.transmissions l.i 0 })
-    c.unpacked.ensures ∙ sym
+    c.from.ensures ∙ sym
     (paired_get outstanding_at a.words a.transmissions l.i (outstanding_at 0 0) (omega arith) (omega arith)) in (
       omega arith,
       l.invariant.1,

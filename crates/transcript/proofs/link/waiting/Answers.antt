@@ -24,7 +24,7 @@ loop-i-preserved c =
     let inside : l.i < 128 = omega arith in
     let all = paired_length waiting_at a.words a.numbers 128 whole beside in
     let here = ap (λ (h : Held). record { number = get_or a.numbers l.i 0; held = h })
-    c.unpacked.ensures ∙ sym
+    c.from.ensures ∙ sym
     (paired_get waiting_at a.words a.numbers l.i (waiting_at 0 0) (omega arith) (omega arith)) in (
       omega arith,
       l.invariant.1,
