@@ -15,7 +15,8 @@ use Rattle.words.specs.Words.{unpack, held_in, waiting_in, Front}
 use Rattle.control.specs.Views.{is_set, receiving_of}
 use Rattle.control.specs.declared.Arrival.{Arrival}
 use Rattle.arriving.specs.Arrivals.{ready_list, waiting_list, lists_of, Advanced}
-use Rattle.arriving.proofs.Views.{drop_map, held_length, ready_view, waiting_view}
+use Rattle.std.proofs.lemmas.List.{drop-map}
+use Rattle.arriving.proofs.Views.{held_length, ready_view, waiting_view}
 
 -- the first k are dropped, and those that wait move up
 pub freed_reads : (a : Arrival) (r w ns r' : List ℕ) (k : ℕ) → length r ≡ 128 → a.ready ≤ 128
@@ -30,7 +31,7 @@ unfolding after_read
 freed_reads a r w ns r' k e few front left moved r'' w'' ns'' ad t wanted acks q =
     let n : ℕ = a.ready in
     let dropped : held_of (ready_list r' (n - k)) ≡ drop k (held_in r n) =
-    ready_view r' (n - k) ∙ ap (map unpack) front.list ∙ sym (drop_map unpack k (take n r)) in
+    ready_view r' (n - k) ∙ ap (map unpack) front.list ∙ sym (drop-map unpack k (take n r)) in
     let i : ReceivingIs (lists_of moved r'' w'' ns'') (advance a.expected (drop k (held_in r n)) (waiting_in w ns a.waiting)) =
     rw (dropped, waiting_view w ns a.waiting) at ad.is in
     let ready = sym (ready_view r'' moved.ready) ∙ i.ready.list in

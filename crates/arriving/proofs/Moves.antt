@@ -1,21 +1,21 @@
 -- Words and numbers side by side, moved from the waiting to the ready.
 -- Assumes nothing.
 use mathlib.Core.Path.{◌≡◌, refl, sym, ap, ap₂, ◌∙◌}
-use mathlib.Core.List.{List, [], ◌++◌, map, map-append, append-nil}
+use mathlib.Core.List.{List, ◌++◌, map, map-append, append-nil}
 use Prim.Native.Nat.{ℕ, ◌+◌, ◌-◌, ◌≤◌, ◌<◌, ◌^◌, min}
 use native.Mathlib.Omega.{arith}
-use lib.ListN.{length, take, drop, get_or, set, length-map}
+use lib.ListN.{length, take, drop, get_or, length-map}
 use lib.Seq.{take-take}
 use Rattle.protocol.specs.Serial.{plus, minus}
 use Rattle.lists.specs.Views.{waiting_part, HeldIs, WaitingIs}
 use Rattle.lists.specs.Receiving.{run_of, advance, ReceivingIs}
-use Rattle.lists.proofs.Loops.{Written, written_put, written_done, view_next}
 use Rattle.lists.proofs.Searches.{run_more, run_stop, run_end}
 use Rattle.lists.proofs.Advances.{advanced}
 use Rattle.words.specs.Words.{unpack, paired, waiting_at, Front}
 use Rattle.words.proofs.Pairs.{paired_take, paired_length, paired_get, paired_drop, blank}
 use Rattle.arriving.specs.Arrivals.{ready_list, waiting_list, WholeLists}
-use Rattle.arriving.proofs.Views.{take_map, waiting_parts}
+use Rattle.std.proofs.lemmas.List.{take-map}
+use Rattle.arriving.proofs.Views.{waiting_parts}
 
 -- ---- the run of numbers, with any words beside them
 
@@ -37,12 +37,6 @@ module _ (ws ns : List ℕ) (n i k total : ℕ) (e : length ws ≡ 128) (f : len
     pub runs_more : (k' : ℕ) → k' ≡ plus k 1 → o ≡ 0 → total ≡ i + 1 + run_of k' (drop (i + 1) (take n (paired waiting_at ws ns)))
     runs_more = run_more (paired waiting_at ws ns) n i k total inv blank o h long here
 
--- ---- words brought from another array
-
-pub written_next : {size : ℕ} {l goal : List ℕ} {j : ℕ} (src : List ℕ) (k m : ℕ) → m < k → k ≤ length src → j < size
-    → Written size l (drop m (take k src)) goal j → Written size (set l j (get_or src m 0)) (drop (m + 1) (take k src)) goal (j + 1)
-written_next src k m h g b w = written_put b (rw (view_next src k m 0 h g) at w)
-
 -- ---- the whole
 
 module _ (r w ns r' w' ns' : List ℕ) (i j k : ℕ) (whole : WholeLists r w ns) (few : j ≤ 128) (within : k ≤ j)
@@ -53,8 +47,8 @@ module _ (r w ns r' w' ns' : List ℕ) (i j k : ℕ) (whole : WholeLists r w ns)
       let front = waiting_parts w ns k whole.whole_waiting whole.whole_numbers (omega arith) in
       record {
         fits = up.fits;
-        list = take_map unpack (i + k) r' ∙ ap (map unpack) up.list ∙ map-append unpack (take i r)
-            (take k w) ∙ rw (take_map unpack i r, take-take k j (paired waiting_at w ns) within, front);
+        list = take-map unpack (i + k) r' ∙ ap (map unpack) up.list ∙ map-append unpack (take i r)
+            (take k w) ∙ rw (take-map unpack i r, take-take k j (paired waiting_at w ns) within, front);
       }
 
   waits_left : WaitingIs (waiting_list w' ns' (j - k)) (drop k (take j (paired waiting_at w ns)))
@@ -84,6 +78,3 @@ none_up r w ns i j n next whole low g h e f =
     advanced next i j n 0 next (map unpack r) (paired waiting_at w ns) (ready_list r i) (waiting_list w ns j) low
     (rw (length-map r unpack, whole.whole_ready) g) e f (omega arith)
     (record { fits = g; list = sym (append-nil (take i (map unpack r))) }) (record { fits = h; list = refl })
-
-pub front_written : {l todo goal : List ℕ} {j : ℕ} (m : ℕ) → j ≡ m → todo ≡ [] → Written 128 l todo goal j → Front 128 l m goal
-front_written m e f w = let h = written_done f w in rw (← e) (record { whole = w.whole; fits = h.fits; list = h.list })

@@ -2,25 +2,16 @@
 -- Assumes nothing.
 use mathlib.Core.Path.{◌≡◌, refl, sym, ap, ◌∙◌}
 use mathlib.Core.List.{List, [], ◌∷◌, map}
-use Prim.Native.Nat.{ℕ, zero, suc, ◌≤◌}
+use Prim.Native.Nat.{ℕ, ◌≤◌}
 use native.Mathlib.Omega.{arith}
-use lib.ListN.{length, take, drop, length-map}
+use lib.ListN.{length, take, length-map}
 use lib.Seq.{length-take-le}
+use Rattle.std.proofs.lemmas.List.{take-map}
 use Rattle.lists.specs.declared.Held.{Held}
 use Rattle.lists.specs.Views.{held_of, waiting_of, waiting_part}
 use Rattle.words.specs.Words.{unpack, held_in, paired, waiting_at, waiting_in}
 use Rattle.words.proofs.Pairs.{paired_take}
 use Rattle.arriving.specs.Arrivals.{ready_list, waiting_list}
-
-pub take_map : {A B : Type 0} (f : A → B) (n : ℕ) (l : List A) → take n (map f l) ≡ map f (take n l)
-take_map f zero l = refl
-take_map f (suc n) [] = refl
-take_map f (suc n) (x ∷ l) = ap (λ (r : List _). f x ∷ r) (take_map f n l)
-
-pub drop_map : {A B : Type 0} (f : A → B) (n : ℕ) (l : List A) → drop n (map f l) ≡ map f (drop n l)
-drop_map f zero l = refl
-drop_map f (suc n) [] = refl
-drop_map f (suc n) (x ∷ l) = drop_map f n l
 
 pub held_length : (words : List ℕ) (n : ℕ) → n ≤ length words → length (held_in words n) ≡ n
 held_length words n h = length-map (take n words) unpack ∙ length-take-le n words h
@@ -34,7 +25,7 @@ paired_parts (w ∷ ws) (n ∷ ns) e = ap (λ (r : List Held). unpack w ∷ r) (
 
 -- the lists are those of the block
 pub ready_view : (words : List ℕ) (n : ℕ) → held_of (ready_list words n) ≡ held_in words n
-ready_view words n = take_map unpack n words
+ready_view words n = take-map unpack n words
 
 pub waiting_view : (words numbers : List ℕ) (n : ℕ) → waiting_of (waiting_list words numbers n) ≡ waiting_in words numbers n
 waiting_view words numbers n = sym (paired_take waiting_at n words numbers)

@@ -11,6 +11,7 @@ use Rattle.session.specs.Reading.{front_count, after_read}
 use Rattle.words.specs.Words.{unpack, held_in, paired, waiting_at}
 use Rattle.control.specs.Views.{receiving_of}
 use Rattle.control.specs.declared.Arrival.{Arrival}
+use Rattle.arriving.specs.declared.Incoming.{Incoming}
 
 -- the lists that the arrays hold
 abbrev pub ready_list : List ℕ → ℕ → Listed Held 128
@@ -49,3 +50,16 @@ pub record Freed (a : Arrival) (k : ℕ) (ready waiting numbers : List ℕ) (r :
   pub same_acks : r.acks ≡ a.acks
   pub reads : (acks : List Ack) → front_count (held_in ready a.ready) ≡ k
       → receiving_of r ready' waiting' numbers' acks ≡ after_read (receiving_of a ready waiting numbers acks)
+
+-- the lent parts are the same
+pub record Same (l l' : Incoming) : Type 0 where
+  pub ready : l'.ready.ghost_name ≡ l.ready.ghost_name
+  pub waiting : l'.waiting.ghost_name ≡ l.waiting.ghost_name
+  pub numbers : l'.numbers.ghost_name ≡ l.numbers.ghost_name
+
+-- the arrays have their lengths
+abbrev pub Whole : Incoming → Type 0
+Whole l = WholeLists l.ready.now l.waiting.now l.numbers.now
+
+abbrev pub lists_in : Incoming → lists.Receiving
+lists_in l = lists_of l.arrival l.ready.now l.waiting.now l.numbers.now

@@ -1,6 +1,6 @@
 -- The loops over the first k words: the total length of their segments, and their payloads copied out.
 -- Assumes nothing.
-use mathlib.Core.Path.{◌≡◌, refl, ◌∙◌}
+use mathlib.Core.Path.{◌≡◌, refl}
 use mathlib.Core.List.{List, [], ◌∷◌}
 use Prim.Native.Nat.{ℕ, zero, suc, ◌+◌, ◌*◌, ◌≤◌, ◌<◌}
 use native.Mathlib.Nat.{mul-le-mul_right}
@@ -15,18 +15,6 @@ use Rattle.session.specs.Reading.{length_of, joined_in}
 use Rattle.words.specs.Words.{unpack}
 use Rattle.deliver.specs.Messages.{InPool}
 use Rattle.deliver.proofs.Fronts.{rest, rest_next, rest_end}
-
--- ---- the total length
-
--- so far it is sum
-module _ (ws : List ℕ) (k i total sum : ℕ) (inv : total ≡ sum + length_of (rest ws k i)) where
-  pub total_more : (len : ℕ) → i < k → k ≤ length ws → len ≡ (unpack (get_or ws i 0)).len → total ≡ sum + len + length_of (rest ws k (i + 1))
-  unfolding length_of
-  total_more len h g e = inv ∙ rw (rest_next ws k i h g, ← e) (omega arith)
-
-  pub total_end : k ≤ i → total ≡ sum
-  unfolding length_of
-  total_end h = inv ∙ rw (rest_end ws k i h) (omega arith)
 
 -- ---- the payloads
 
@@ -76,23 +64,18 @@ module _ (mss : ℕ) (pool : List ℕ) (h : Held) (left : List Held) (goal out :
         }
 
 -- the loop stands at index i
-module _ (mss : ℕ) (pool ws : List ℕ) (k i : ℕ) (goal out : List ℕ) (at : ℕ) (c : Copying mss pool (rest ws k i) goal out at) where
-  module _ (slot len : ℕ) (h : i < k) (g : k ≤ length ws) (e : slot ≡ (unpack (get_or ws i 0)).slot) (f : len ≡ (unpack (get_or ws i 0)).len)
-    where
-      pub copying_at : Next mss pool out at slot len
-      copying_at = rw (e, f) (copying_next mss pool (unpack (get_or ws i 0)) (rest ws k (i + 1)) goal out at (rw (rest_next ws k i h g) at c))
+module _ (ws : List ℕ) {mss : ℕ} {pool : List ℕ} {i : ℕ} {goal out : List ℕ} {at : ℕ} (c : Copying mss pool (rest ws i) goal out at) where
+  module _ (h : i < length ws) where
+    pub copying_at : Next mss pool out at (unpack (get_or ws i 0)).slot (unpack (get_or ws i 0)).len
+    copying_at = copying_next mss pool (unpack (get_or ws i 0)) (rest ws (i + 1)) goal out at (rw (rest_next ws i h) at c)
 
-      pub copying_more : (out' : List ℕ) → out' ≡ sets out at (part pool (slot * mss) len)
-          → Copying mss pool (rest ws k (i + 1)) goal out' (at + len)
-      copying_more out' q = rw (
-        q,
-        e,
-        f,
-      ) (copying_put mss pool (unpack (get_or ws i 0)) (rest ws k (i + 1)) goal out at (rw (rest_next ws k i h g) at c))
+    pub copying_more : Copying mss pool (rest ws (i + 1)) goal
+        (sets out at (part pool ((unpack (get_or ws i 0)).slot * mss) (unpack (get_or ws i 0)).len)) (at + (unpack (get_or ws i 0)).len)
+    copying_more = copying_put mss pool (unpack (get_or ws i 0)) (rest ws (i + 1)) goal out at (rw (rest_next ws i h) at c)
 
-  pub copying_end : k ≤ i → out ≡ goal
+  pub copying_end : length ws ≤ i → out ≡ goal
   unfolding joined_in
-  copying_end h = rw (rest_end ws k i h) at c.whole
+  copying_end h = rw (rest_end ws i h) at c.whole
 
 -- ---- the message's segments are among those ready
 

@@ -18,7 +18,7 @@ use Rattle.keeping.specs.Pushing.{is_in_window}
 use Rattle.keeping.proofs.Places.{searched}
 use Rattle.words.specs.Words.{paired, waiting_at, Placed, is_at}
 use Rattle.words.proofs.Pairs.{paired_length, paired_get, blank}
-use Rattle.keeping.specs.Keeping.{Ascends, Found}
+use Rattle.keeping.specs.Keeping.{Ascends, GoesIn, Passed}
 
 ltb_suc : (i n : ℕ) → ltb (suc i) (suc n) ≡ ltb i n
 ltb_suc i n = go (dec_lt i n)
@@ -71,18 +71,14 @@ module _ (next sn : ℕ) (ns : List ℕ) (n i : ℕ) (f : length ns ≡ 128) (fe
   -- a and b are the tests of the number, r whether it is held at index i
   module _ (a b : Bool) (ea : a ≡ is_in_window next sn) (eb : b ≡ is_before sn next) (t : a && not b ≡ true) where
     -- it is new
-    pub found_here : i ≤ 128 → is_at ns n i next (minus sn next) ≡ false → Found next sn ns n i
-    found_here l z =
+    pub found_here : is_at ns n i next (minus sn next) ≡ false → GoesIn next sn ns n i
+    found_here z =
         record {
-          place = λ h. (p, z);
-          kept = λ h ws e o. sym (searched next sn (take n (paired waiting_at ws ns)) a b ea eb false (sym (is_held_lem ws e o ∙ z)) t);
-          passed = λ h. absurd (omega arith);
+          place = p;
+          lacks = z;
+          kept = λ ws e o. sym (searched next sn (take n (paired waiting_at ws ns)) a b ea eb false (sym (is_held_lem ws e o ∙ z)) t);
         }
 
     -- it is held
-    pub found_held : is_at ns n i next (minus sn next) ≡ true → Found next sn ns n 256
-    found_held z = record {
-      place = λ h. absurd (omega arith);
-      kept = λ h. absurd (omega arith);
-      passed = λ h ws e o. sym (searched next sn (take n (paired waiting_at ws ns)) a b ea eb true (sym (is_held_lem ws e o ∙ z)) t);
-    }
+    pub found_held : is_at ns n i next (minus sn next) ≡ true → Passed next sn ns n
+    found_held z ws e o = sym (searched next sn (take n (paired waiting_at ws ns)) a b ea eb true (sym (is_held_lem ws e o ∙ z)) t)

@@ -28,7 +28,7 @@ use Rattle.words.specs.Words.{is_at, unpack, waiting_at, waiting_in, paired, Fro
 use Rattle.words.proofs.Pairs.{paired_take, insert_fits}
 use Rattle.control.specs.declared.Arrival.{Arrival}
 use Rattle.arriving.specs.Arrivals.{ready_list, waiting_list, lists_of, WholeLists, Advanced}
-use Rattle.arriving.proofs.Views.{take_map}
+use Rattle.std.proofs.lemmas.List.{take-map}
 use Rattle.keeping.specs.Keeping.{Storable, Stored, Keepable, Kept}
 use Rattle.marks.proofs.Frees.{free_lowest, free_low, free_next}
 
@@ -158,8 +158,8 @@ module _ (l : Receiving) (marks : List ℕ) (k m : ℕ) (s : List ℕ) (start : 
             → Kept a l m s start h pool marks moved (lists_of moved r₂ w₂ ns₂) pool' (slot + 1)
         kept_next eq b f t r₁ front up d d' next n moved r₂ w₂ ns₂ ad =
             let list : take (a.ready + 1) (map unpack r₁) ≡ take a.ready (map unpack r) ++ (held_at slot h ∷ []) =
-            take_map unpack (a.ready + 1) r₁ ∙ ap (map unpack) front.list ∙ map-append unpack (take a.ready r) (word ∷ []) ∙ rw
-            (take_map unpack a.ready r, held) refl in
+            take-map unpack (a.ready + 1) r₁ ∙ ap (map unpack) front.list ∙ map-append unpack (take a.ready r) (word ∷ []) ∙ rw
+            (take-map unpack a.ready r, held) refl in
             kept_is a moved (lists_of moved r₂ w₂ ns₂) (rw (raised b f t (held_at slot h), eq) (rw (list, n) at ad.is)) (ad.same_acks ∙ d)
             (ad.same_tell ∙ d')
 

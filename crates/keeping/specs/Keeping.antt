@@ -1,6 +1,6 @@
 -- What keeping a push in lent arrays asks, and what it leaves; marks that are not updated tell the free slots. Definitions.
 -- Assumes nothing.
-use Rattle.std.specs.Prelude.{◌≡◌, Bool, true, false, cond, ◌&&◌, List, ℕ, ◌+◌, ◌*◌, ◌≤◌, ◌<◌, ◌^◌, ltb, eqb, length, take, get_or}
+use Rattle.std.specs.Prelude.{◌≡◌, Bool, true, false, cond, ◌&&◌, List, ℕ, ◌+◌, ◌*◌, ◌≤◌, ◌<◌, ◌^◌, ltb, length, take, Option, MatchOption}
 use Rattle.std.proofs.lemmas.List.Edits.{sets}
 use Rattle.protocol.specs.Protocol.{receive_window, receive_slots}
 use Rattle.protocol.specs.Serial.{minus}
@@ -14,6 +14,7 @@ use Rattle.pools.specs.Parts.{part}
 use Rattle.words.specs.Words.{paired, waiting_at, Placed, is_at}
 use Rattle.marks.specs.Marks.{next_free, Free}
 use Rattle.control.specs.declared.Arrival.{Arrival}
+use Rattle.keeping.specs.declared.Slots.{Slots}
 use Rattle.keeping.specs.Pushing.{is_in_window, is_new_in, is_kept, used_by, slot_for, held_for, entry_of}
 
 -- a push that stands in a datagram and fits a slot, a slot that is free, and a pool that has all slots
@@ -42,11 +43,19 @@ Ascends base n words numbers = ascending (waiting_offset base) 0 receive_window 
 abbrev pub kept_among : ℕ → ℕ → ℕ → List ℕ → List ℕ → Bool
 kept_among next sn n words numbers = is_in_window next sn && is_new_in next (take n (paired waiting_at words numbers)) sn
 
--- i is the push's index among those that wait, or 256 where it is not kept
-pub record Found (next sn : ℕ) (numbers : List ℕ) (n i : ℕ) : Type 0 where
-  pub place : i < 256 → Placed next (minus sn next) numbers n i × (is_at numbers n i next (minus sn next) ≡ false)
-  pub kept : i < 256 → (words : List ℕ) → length words ≡ 128 → Ascends next n words numbers → kept_among next sn n words numbers ≡ true
-  pub passed : 256 ≤ i → (words : List ℕ) → length words ≡ 128 → Ascends next n words numbers → kept_among next sn n words numbers ≡ false
+-- the push goes in at index i
+pub record GoesIn (next sn : ℕ) (numbers : List ℕ) (n i : ℕ) : Type 0 where
+  pub place : Placed next (minus sn next) numbers n i
+  pub lacks : is_at numbers n i next (minus sn next) ≡ false
+  pub kept : (words : List ℕ) → length words ≡ 128 → Ascends next n words numbers → kept_among next sn n words numbers ≡ true
+
+-- it is not kept
+abbrev pub Passed : ℕ → ℕ → List ℕ → ℕ → Type 0
+Passed next sn numbers n = (words : List ℕ) → length words ≡ 128 → Ascends next n words numbers → kept_among next sn n words numbers ≡ false
+
+-- the push's index among those that wait, none where it is not kept
+abbrev pub Found : ℕ → ℕ → List ℕ → ℕ → Option ℕ → Type 0
+Found next sn numbers n r = MatchOption r (Passed next sn numbers n) (λ i. GoesIn next sn numbers n i)
 
 -- ---- keeping
 
@@ -81,3 +90,9 @@ pub record Kept (a : Arrival) (l : Receiving) (mss : ℕ) (s : List ℕ) (start 
   pub free : Free marks (used_by moved.ready moved.waiting) k
   pub same_acks : r.acks ≡ a.acks
   pub same_tell : r.tell ≡ a.tell
+
+-- the marks, the length of a slot and the lent pool are the same
+pub record SameSlots (x x' : Slots) : Type 0 where
+  pub marks : x'.marks ≡ x.marks
+  pub mss : x'.mss ≡ x.mss
+  pub pool : x'.pool.ghost_name ≡ x.pool.ghost_name

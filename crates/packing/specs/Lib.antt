@@ -1,2 +1,3 @@
 pub mod Packers
 pub mod PackerLaws
+pub mod Writers

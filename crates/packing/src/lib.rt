@@ -4,7 +4,8 @@
 ghost use Rattle.std.specs.Prelude.{◌≡◌, ◌+◌, ◌-◌, ◌*◌, ◌≤◌, ◌<◌, length};
 ghost use Rattle.wire.specs.Headers.{encode};
 ghost use Rattle.session.specs.Flushing.{bytes_of_segment, control, data_segment};
-ghost use Rattle.packing.specs.Packers.{carried_of, none, begun, closed, with_length, Fills, Room, MakesRoom, Puts, Finishes};
+ghost use Rattle.packing.specs.Packers.{carried_of, none, begun, closed, with_length, Fills, MakesRoom, Finishes};
+ghost use Rattle.packing.specs.Writers.{Same, HasRoom, PutsIn};
 
 use lists::Sent;
 use protocol::Protocol;
@@ -26,136 +27,137 @@ pub struct Carried {
     pub una: u32,
 }
 
-impl Packer {
-    pub fn new() -> Self
-        ensures { result ≡ none }
+// What writes the datagrams of a flush: their limit, what all their segments carry, the packer, and the lent output and lengths.
+#[derive(Drop)]
+pub struct Writer<'a> {
+    pub mtu: usize,
+    pub carried: Carried,
+    pub packer: Packer,
+    pub out: &'a mut [u8],
+    pub lengths: &'a mut [u16],
+}
+
+impl<'a> Writer<'a> {
+    pub fn new(
+        mtu: usize,
+        carried: Carried,
+        out: &'a mut [u8],
+        lengths: &'a mut [u16],
+    ) -> Writer<'a>
+        ensures settings { (result.mtu ≡ mtu) × (result.carried ≡ carried) × (result.packer ≡ none) }
+        ensures same_out { (result.out.ghost_name ≡ out.entry.ghost_name) × (result.out.now ≡ out.old) }
+        ensures same_lengths { (result.lengths.ghost_name ≡ lengths.entry.ghost_name) × (result.lengths.now ≡ lengths.old) }
     {
-        Packer {
+        let packer = Packer {
             at: 0,
             start: 0,
             count: 0,
+        };
+        Writer {
+            mtu,
+            carried,
+            packer,
+            out,
+            lengths,
         }
     }
-}
 
-// The datagram that is being filled is closed: its length is noted, and the next one starts behind it.
-fn close(packer: Packer, mtu: usize, lengths: &mut [u16]) -> Packer
-    requires { Fills mtu packer × (packer.count < length lengths.old) }
-    ensures { (result ≡ closed packer) × (lengths.new ≡ with_length packer lengths.old) }
-{
-    let n = packer.count;
-    lengths[n] = (packer.at - packer.start) as u16;
-    Packer {
-        at: packer.at,
-        start: packer.at,
-        count: n + 1,
+    // The datagram that is being filled is closed: its length is noted, and the next one starts behind it.
+    fn close(&mut self)
+        requires { Fills self.old.mtu self.old.packer × (self.old.packer.count < length self.old.lengths.now) }
+        ensures same { Same self.old self.new × (self.new.out.now ≡ self.old.out.now) }
+        ensures closes { (self.new.packer ≡ closed self.old.packer)
+            × (self.new.lengths.now ≡ with_length self.old.packer self.old.lengths.now) }
+    {
+        let packer = self.packer;
+        self.lengths[packer.count] = (packer.at - packer.start) as u16;
+        self.packer = Packer {
+            start: packer.at,
+            count: packer.count + 1,
+            ..packer
+        };
     }
-}
 
-// Room for `size` bytes: where they would take the datagram past mtu, it is closed.
-fn make_room(packer: Packer, mtu: usize, size: usize, lengths: &mut [u16]) -> Packer
-    requires { Fills mtu packer × (size ≤ mtu) × (begun packer + 1 ≤ length lengths.old) }
-    ensures { MakesRoom mtu size packer lengths.old result lengths.new }
-{
-    let fits = packer.at - packer.start + size <= mtu;
-    if fits {
-        return packer;
+    // Room for `size` bytes: where they would take the datagram past mtu, it is closed.
+    fn make_room(&mut self, size: usize)
+        requires { Fills self.old.mtu self.old.packer × (size ≤ self.old.mtu)
+            × (begun self.old.packer + 1 ≤ length self.old.lengths.now) }
+        ensures same { Same self.old self.new × (self.new.out.now ≡ self.old.out.now) }
+        ensures room { MakesRoom self.old.mtu size self.old.packer self.old.lengths.now self.new.packer self.new.lengths.now }
+    {
+        let fits = self.packer.at - self.packer.start + size <= self.mtu;
+        if !fits {
+            self.close();
+        }
     }
-    close(packer, mtu, lengths)
-}
 
-// A header, with room for its payload behind it.
-fn put_header(packer: Packer, mtu: usize, h: Header, out: &mut [u8], lengths: &mut [u16]) -> Packer
-    requires { Room mtu (24 + h.len) 1 packer out.old lengths.old × (24 + h.len ≤ mtu) }
-    ensures { Puts mtu (24 + h.len) (encode h) packer out.old lengths.old result out.new
-        lengths.new }
-{
-    let at = packer.at;
-    let room = make_room(packer, mtu, Protocol::HEADER + h.len as usize, lengths);
-    wire::codec::write_header(out, at, h);
-    Packer {
-        at: at + Protocol::HEADER,
-        start: room.start,
-        count: room.count,
+    // A header, with room for its payload behind it.
+    fn put_header(&mut self, h: Header)
+        requires { HasRoom (24 + h.len) 1 self.old × (24 + h.len ≤ self.old.mtu) }
+        ensures same { Same self.old self.new }
+        ensures puts { PutsIn (24 + h.len) (encode h) self.old self.new }
+    {
+        let at = self.packer.at;
+        self.make_room(Protocol::HEADER + h.len as usize);
+        wire::codec::write_header(self.out, at, h);
+        self.packer.at = at + Protocol::HEADER;
     }
-}
 
-// An ack, an ask or a tell.
-pub fn put_control(
-    packer: Packer,
-    mtu: usize,
-    carried: Carried,
-    cmd: u8,
-    sn: u32,
-    ts: u32,
-    out: &mut [u8],
-    lengths: &mut [u16],
-) -> Packer
-    requires { Room mtu 24 1 packer out.old lengths.old × (24 ≤ mtu) }
-    ensures { Puts mtu 24 (bytes_of_segment (control (carried_of carried) cmd sn ts)) packer out.old lengths.old result
-        out.new lengths.new }
-{
-    let header = Header {
-        conv: carried.conv,
-        cmd,
-        frg: 0,
-        wnd: carried.wnd,
-        ts,
-        sn,
-        una: carried.una,
-        len: 0,
-    };
-    put_header(packer, mtu, header, out, lengths)
-}
-
-// A data segment, sent at t: its payload comes from its slot of the send pool.
-pub fn put_data(
-    packer: Packer,
-    mtu: usize,
-    carried: Carried,
-    t: u32,
-    sent: Sent,
-    pool: &[u8],
-    out: &mut [u8],
-    lengths: &mut [u16],
-) -> Packer
-    requires { Room mtu (24 + sent.held.len) 1 packer out.old lengths.old × (24 + sent.held.len ≤ mtu) ×
-        (sent.held.slot * (mtu - 24) + sent.held.len ≤ length pool.now) }
-    ensures { Puts mtu (24 + sent.held.len)
-        (bytes_of_segment (data_segment (carried_of carried) (mtu - 24) t pool.now sent)) packer out.old
-        lengths.old result out.new lengths.new }
-{
-    let held = sent.held;
-    let len = held.len as usize;
-    let header = Header {
-        conv: carried.conv,
-        cmd: Protocol::PUSH,
-        frg: held.fragment,
-        wnd: carried.wnd,
-        ts: t,
-        sn: sent.record.number,
-        una: carried.una,
-        len: held.len as u32,
-    };
-    let at = packer.at + Protocol::HEADER;
-    let next = at + len;
-    let from = (held.slot as usize) * (mtu - Protocol::HEADER);
-    let behind = put_header(packer, mtu, header, out, lengths);
-    pools::copy_part(pool, from, len, out, at);
-    Packer {
-        at: next,
-        start: behind.start,
-        count: behind.count,
+    // An ack, an ask or a tell.
+    pub fn put_control(&mut self, cmd: u8, sn: u32, ts: u32)
+        requires { HasRoom 24 1 self.old × (24 ≤ self.old.mtu) }
+        ensures same { Same self.old self.new }
+        ensures puts { PutsIn 24 (bytes_of_segment (control (carried_of self.old.carried) cmd sn ts)) self.old self.new }
+    {
+        let carried = self.carried;
+        self.put_header(Header {
+            conv: carried.conv,
+            cmd,
+            frg: 0,
+            wnd: carried.wnd,
+            ts,
+            sn,
+            una: carried.una,
+            len: 0,
+        });
     }
-}
 
-// The number of datagrams, once the last one is closed; an empty one is none.
-pub fn finish(packer: Packer, mtu: usize, lengths: &mut [u16]) -> usize
-    requires { Fills mtu packer × (begun packer ≤ length lengths.old) }
-    ensures { Finishes packer lengths.old result lengths.new }
-{
-    if packer.at == packer.start {
-        return packer.count;
+    // A data segment, sent at t: its payload comes from its slot of the send pool.
+    pub fn put_data(&mut self, t: u32, sent: Sent, pool: &[u8])
+        requires { HasRoom (24 + sent.held.len) 1 self.old × (24 + sent.held.len ≤ self.old.mtu) ×
+            (sent.held.slot * (self.old.mtu - 24) + sent.held.len ≤ length pool.now) }
+        ensures same { Same self.old self.new }
+        ensures puts { PutsIn (24 + sent.held.len)
+            (bytes_of_segment (data_segment (carried_of self.old.carried) (self.old.mtu - 24) t pool.now sent)) self.old self.new }
+    {
+        let carried = self.carried;
+        let held = sent.held;
+        let len = held.len as usize;
+        let from = (held.slot as usize) * (self.mtu - Protocol::HEADER);
+        self.put_header(Header {
+            conv: carried.conv,
+            cmd: Protocol::PUSH,
+            frg: held.fragment,
+            wnd: carried.wnd,
+            ts: t,
+            sn: sent.record.number,
+            una: carried.una,
+            len: held.len as u32,
+        });
+        let at = self.packer.at;
+        pools::copy_part(pool, from, len, self.out, at);
+        self.packer.at = at + len;
     }
-    close(packer, mtu, lengths).count
+
+    // The number of datagrams, once the last one is closed; an empty one is none.
+    pub fn finish(&mut self) -> usize
+        requires { Fills self.old.mtu self.old.packer × (begun self.old.packer ≤ length self.old.lengths.now) }
+        ensures same { Same self.old self.new × (self.new.out.now ≡ self.old.out.now) }
+        ensures finishes { Finishes self.old.packer self.old.lengths.now result self.new.lengths.now }
+    {
+        if self.packer.at != self.packer.start {
+            self.close();
+        }
+        self.packer.count
+    }
 }

@@ -1,6 +1,6 @@
 -- Noting and keeping together are the definition's push.
 -- Assumes nothing.
-use mathlib.Core.Path.{◌≡◌}
+use mathlib.Core.Path.{◌≡◌, ◌∙◌}
 use mathlib.Core.Bool.{◌||◌}
 use mathlib.Core.List.{List}
 use Prim.Native.Nat.{ℕ, ◌+◌, ◌≤◌, ◌<◌, ◌^◌}
@@ -10,8 +10,10 @@ use Rattle.wire.specs.declared.Header.{Header}
 use Rattle.session.specs.Input.{heard_by_receiving}
 use Rattle.control.specs.Views.{is_set}
 use Rattle.control.specs.declared.Arrival.{Arrival}
-use Rattle.arriving.specs.Arrivals.{lists_of, WholeLists}
-use Rattle.keeping.specs.Keeping.{Kept}
+use Rattle.arriving.specs.declared.Incoming.{Incoming}
+use Rattle.arriving.specs.Arrivals.{lists_of, WholeLists, Same}
+use Rattle.keeping.specs.declared.Slots.{Slots}
+use Rattle.keeping.specs.Keeping.{Kept, SameSlots}
 use Rattle.receive.specs.Halves.{Half, half_of, receiver_of, segment_at, Sound, HalfIs}
 use Rattle.receive.specs.Pushes.{Noted, Marked, Pushable, Heard}
 use Rattle.receive.proofs.Steps.{pushed_is, heard_other}
@@ -35,6 +37,13 @@ module _ (a : Arrival) (r w ns marks : List ℕ) (k m : ℕ) (s : List ℕ) (sta
       }
 
 -- ---- in the loop
+
+-- the lent parts stay the same over two steps
+pub same_on : {x y z : Incoming} → Same x y → Same y z → Same x z
+same_on a b = record { ready = b.ready ∙ a.ready; waiting = b.waiting ∙ a.waiting; numbers = b.numbers ∙ a.numbers }
+
+pub slots_on : {x y z : Slots} → SameSlots x y → SameSlots y z → SameSlots x z
+slots_on a b = record { marks = b.marks ∙ a.marks; mss = b.mss ∙ a.mss; pool = b.pool ∙ a.pool }
 
 -- n is the mss that was asked for
 pub pushable : (half : Half) (marks : List ℕ) (k m : ℕ) (s : List ℕ) (start : ℕ) (h : Header) (pool acks : List ℕ) (n : ℕ) → n ≡ m

@@ -89,5 +89,5 @@ module _ (c : Settings) (s : List ℕ) (h₀ : Half) (acks₀ pool₀ : List ℕ
       unfolding all_by_receiving
       heard_all = record { is = rw none at w.receiving; more = w.more; beyond = w.beyond; sound = w.sound; low = w.low }
 
-      pub walking_end : HearsAll c s h₀ acks₀ pool₀ h acks pool
-      walking_end gs p = let q = sym w.parsed ∙ p in let same : w.all ≡ gs = cc in rw same at heard_all
+      pub walking_end : (pool' : List ℕ) → pool' ≡ pool → HearsAll c s h₀ acks₀ pool₀ h acks pool'
+      walking_end pool' back gs p = let q = sym w.parsed ∙ p in let same : w.all ≡ gs = cc in rw back (rw same at heard_all)

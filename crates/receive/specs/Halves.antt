@@ -14,6 +14,7 @@ use Rattle.pools.specs.Parts.{part}
 use Rattle.session.specs.Input.{Receiver, all_by_receiving}
 use Rattle.control.specs.Views.{is_set, pairs}
 use Rattle.control.specs.declared.Arrival.{Arrival}
+use Rattle.arriving.specs.declared.Incoming.{Incoming}
 use Rattle.arriving.specs.Arrivals.{lists_of}
 
 -- the receiving half: its lists, the count of noted acks, which are pairs in the lent ack list, and whether a tell is wanted
@@ -25,6 +26,9 @@ pub record Half : Type 0 where
 -- the half that a block's numbers and arrays are
 abbrev pub half_of : Arrival → List ℕ → List ℕ → List ℕ → Half
 half_of a ready waiting numbers = record { lists = lists_of a ready waiting numbers; acks = a.acks; tell = is_set a.tell }
+
+abbrev pub half_in : Incoming → Half
+half_in l = half_of l.arrival l.ready.now l.waiting.now l.numbers.now
 
 -- the half with the acks of the lent list, and the pool
 abbrev pub receiver_of : Half → List ℕ → List ℕ → Receiver

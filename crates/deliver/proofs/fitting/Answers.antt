@@ -5,17 +5,12 @@ use Rattle.deliver.proofs.Sizes.{fits, too_long, none}
 use Rattle.deliver.proofs.fitting.Goals as goal
 
 pub returns : goal.returns
-returns c =
-    let a = c.args in
-    fits (held_in a.ready.now a.n) _ _ c.in_ok-size.ensures c.if-room-size.false
+returns c = fits (held_in c.args.ready.now c.args.n) _ _ c.in_ok-size.ensures c.if-room-size.false
 
 pub returns-then-room-size : goal.returns-then-room-size
-returns-then-room-size c =
-    let a = c.args in
-    too_long (held_in a.ready.now a.n) _ _ c.in_ok-size.ensures c.if-room-size.true
+returns-then-room-size c = too_long (held_in c.args.ready.now c.args.n) _ _ c.in_ok-size.ensures c.if-room-size.true
 
 pub returns-in_err-size : goal.returns-in_err-size
 returns-in_err-size c =
-    let a = c.args in
     let p = err_from_is_err_and c.from_residual.result c.from_residual.ensures.1 in
-    rw (p.1, p.2) (none (held_in a.ready.now a.n) _ _ c.in_err-size.ensures)
+    rw (p.1, p.2) (none (held_in c.args.ready.now c.args.n) _ _ c.in_err-size.ensures)

@@ -1,24 +1,17 @@
 -- `front_size`: the length of the message where all its segments are ready, else 9.
 use mathlib.Core.Path.{ap, ◌∙◌}
-use native.Mathlib.Omega.{arith}
+use mathlib.Core.List.{map}
 use Rattle.session.specs.Reading.{length_of}
-use Rattle.words.specs.Words.{held_in}
-use Rattle.deliver.proofs.Fronts.{readable_is, tested_within, message_words}
+use Rattle.words.specs.Words.{unpack}
+use Rattle.deliver.proofs.Fronts.{front_words, length_sum}
 use Rattle.deliver.proofs.Sizes.{front_readable, front_none}
 use Rattle.deliver.proofs.front_size.Goals as goal
 
-pub returns-then-k-n : goal.returns-then-k-n
-returns-then-k-n c =
-    let w = c.args.ready.now in
-    let n = c.args.n in
-    let k = c.front_count-k in
-    let e = readable_is w n _ (omega (arith, c.requires)) k.ensures in
-    front_readable (held_in w n) _ e _ c.if-k-n.true
-    (c.total.ensures ∙ ap length_of (message_words w n _ (omega (arith, c.requires)) k.ensures
-    (tested_within _ _ c.if-k-n.true)))
+pub returns-then-not-readable : goal.returns-then-not-readable
+returns-then-not-readable c = front_none (map unpack c.args.ready.now) _ c.readable.ensures c.if-not-readable.true
 
 pub returns : goal.returns
 returns c =
     let w = c.args.ready.now in
-    let n = c.args.n in
-    front_none (held_in w n) _ (readable_is w n _ (omega (arith, c.requires)) c.front_count-k.ensures) c.if-k-n.false
+    front_readable (map unpack w) _ c.readable.ensures _ c.if-not-readable.false
+    (c.total.ensures ∙ length_sum _ ∙ ap length_of (front_words w _ c.front_count-k.ensures))

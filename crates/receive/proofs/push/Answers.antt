@@ -3,11 +3,8 @@ use borrow.Author.Rules.{rules}
 use Rattle.receive.proofs.Pushed.{heard}
 use Rattle.receive.proofs.push.Goals as goal
 
-pub returns : goal.returns
-returns c =
-    let a = c.args in
-    let e = c.keep.ensures in (
-      e.0,
-      heard a.arrival a.ready.now a.waiting.now a.numbers.now _ _ _ _ _ _ _ _ c.requires.1 (search rules) (search rules) _ _
-          c.note-noted.ensures _ _ _ _ e.0 _ _ e.1,
-    )
+pub returns-clause-hears : goal.returns-clause-hears
+returns-clause-hears c =
+    let h = c.args.half.now in
+    heard h.arrival h.ready.now h.waiting.now h.numbers.now _ _ _ _ _ _ _ _ c.requires.1 (search rules) (search rules) _ _
+    c.note-half.ensures _ _ _ _ c.keep.ensures.whole _ _ c.keep.ensures.keeps

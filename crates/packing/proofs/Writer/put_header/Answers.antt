@@ -1,4 +1,4 @@
--- `packing::put_header` meets its contract: room is made, and the header is written where the packer stood.
+-- `put_header` meets its contract: room is made, and the header is written where the packer stood.
 use mathlib.Core.Path.{◌≡◌, refl, ap, ◌∙◌}
 use mathlib.Core.Bool.{Bool, true, false, cond}
 use mathlib.Core.List.{List}
@@ -11,7 +11,7 @@ use Rattle.wire.specs.HeaderLaws.{length_encode}
 use Rattle.wire.specs.declared.Header.{Header}
 use Rattle.packing.specs.declared.Packer.{Packer}
 use Rattle.packing.specs.Packers.{fits, closed, MakesRoom, Puts}
-use Rattle.packing.proofs.put_header.Goals as goal
+use Rattle.packing.proofs.Writer.put_header.Goals as goal
 
 of_chosen : (f : Packer → ℕ) (b : Bool) (x y : Packer) → f (cond b x y) ≡ cond b (f x) (f y)
 of_chosen f true x y = refl
@@ -30,6 +30,6 @@ header_puts mtu n h k room out lengths out' lengths' ok m w enough =
       sizes = m.sizes;
     }
 
-pub returns : goal.returns
-returns c =
-    header_puts _ _ _ _ _ _ _ _ _ _ c.make_room-room.ensures c.write_header.ensures (search rules)
+pub returns-clause-puts : goal.returns-clause-puts
+returns-clause-puts c =
+    header_puts _ _ _ _ _ _ _ _ _ _ c.make_room.ensures.room (rw c.make_room.ensures.same.1 at c.write_header.ensures) (search rules)
