@@ -1,15 +1,14 @@
 // The sending half hears a datagram in place: windows and round trips, what is acknowledged, and skips.
 #![tactic(auto)]
 
-ghost use Rattle.std.specs.Prelude.{◌≡◌, cond, not, ◌&&◌, map, ℕ, ◌^◌, ◌≤◌, ◌<◌, ltb, take, length};
+ghost use Rattle.std.specs.Prelude.{◌≡◌, cond, not, ◌&&◌, map, ℕ, ◌^◌, ◌≤◌, ◌<◌, ltb, take, length, get_or};
 ghost use Rattle.protocol.specs.Ranges.{mss};
 ghost use Rattle.protocol.specs.Serial.{is_before};
 ghost use Rattle.datagram.specs.StepLaws.{Begun};
 ghost use Rattle.lists.specs.Joining.{joined};
 ghost use Rattle.lists.specs.Acknowledging.{filter, first_number_or};
-ghost use Rattle.record_words.specs.RecordWords.{records_in};
-ghost use Rattle.session.specs.Decides.{All};
 ghost use Rattle.words.specs.Words.{outstanding_in};
+ghost use Rattle.records.specs.Tables.{blank};
 ghost use Rattle.acknowledge.specs.Flights.{JoinedIn, InOrder, HearsAll, view};
 ghost use Rattle.acknowledge.specs.Furthest.{none_yet, further_by};
 ghost use Rattle.acknowledge.specs.Hearing.{stays_by, Concerns, timed_by, skip_record};
@@ -65,34 +64,34 @@ fn first_number(n: usize, first: Record, next: u32) -> u32
 fn remaining(
     words: &mut [u32; 32],
     transmissions: &mut [u8; 32],
-    records: &mut [u32; 128],
+    records: &mut [Record; 32],
     n: usize,
     next: u32,
     h: Header,
 ) -> Left
-    requires { (length words.old ≡ 32) × (length transmissions.old ≡ 32) × (length records.old ≡ 128) × (n ≤ 32) }
-    ensures { JoinedIn words.new transmissions.new result.count (records_in records.new)
+    requires { (length words.old ≡ 32) × (length transmissions.old ≡ 32) × (length records.old ≡ 32) × (n ≤ 32) }
+    ensures { JoinedIn words.new transmissions.new result.count records.new
         (filter (stays_by next h)
-        (joined (outstanding_in words.old transmissions.old n) (records_in records.old)))
+        (joined (outstanding_in words.old transmissions.old n) records.old))
         × (result.first ≡ first_number_or (filter (stays_by next h)
-        (joined (outstanding_in words.old transmissions.old n) (records_in records.old))) next)
-        × (length records.new ≡ 128) }
+        (joined (outstanding_in words.old transmissions.old n) records.old)) next)
+        × (length records.new ≡ 32) }
 {
     let mut i: usize = 0;
     let mut j: usize = 0;
     while i < n {
         let word = words[i];
         let sent = transmissions[i];
-        let record = record_words::at(records, i);
+        let record = records[i];
         i += 1;
         if stays(next, h, record.number) {
             words[j] = word;
             transmissions[j] = sent;
-            record_words::put(records, j, record);
+            records[j] = record;
             j += 1;
         }
     }
-    let first = record_words::at(records, 0);
+    let first = records[0];
     Left {
         count: j,
         first: first_number(j, first, next),
@@ -158,47 +157,53 @@ fn skipped(old: Record, number: u32) -> Record
 }
 
 // The records, where each of the first n whose number is before the given one has one skip more.
-fn skip_before(records: &mut [u32; 128], n: usize, number: u32)
-    requires { (length records.old ≡ 128) × (n ≤ 32) }
-    ensures { (take n (records_in records.new) ≡ map (skip_record number) (take n (records_in records.old)))
-        × (length records.new ≡ 128) }
+fn skip_before(records: &mut [Record; 32], n: usize, number: u32)
+    requires { (length records.old ≡ 32) × (n ≤ 32) }
+    ensures { (take n records.new ≡ map (skip_record number) (take n records.old))
+        × (length records.new ≡ 32) }
 {
     let mut i: usize = 0;
     while i < n {
-        let old = record_words::at(records, i);
-        record_words::put(records, i, skipped(old, number));
+        let old = records[i];
+        records[i] = skipped(old, number);
         i += 1;
     }
 }
 
-// Each of the words is below 2^32, which a read of one tells of all.
-fn words_fit(words: &[u32])
-    requires { 0 < length words.now }
-    ensures { All (λ (w : ℕ). w < 2 ^ 32) words.now }
+// A record's number is below 2^32.
+fn number_fits(record: Record)
+    ensures { «record».number < 2 ^ 32 }
+{}
+
+// So is the number of each; at run time there is nothing to do.
+fn numbers_fit(records: &[Record; 32])
+    ensures { (k : ℕ) → k < length records.now → (get_or records.now k blank).number < 2 ^ 32 }
 {
-    let _ = words[0];
+    for record in records {
+        number_fits(*record);
+    }
 }
 
 // The segments of an accepted datagram are heard, one after the other. Then, if the furthest number counts, each outstanding
 // segment before it gets one skip.
 pub fn hear(
     flight: Flight,
-    records: &mut [u32; 128],
+    records: &mut [Record; 32],
     settings: Settings,
     current: u32,
     outstanding: &mut [u32; 32],
     transmissions: &mut [u8; 32],
     s: &[u8],
 ) -> Flight
-    requires { InOrder (view flight outstanding.old transmissions.old (records_in records.old))
-        × (length records.old ≡ 128)
+    requires { InOrder (view flight outstanding.old transmissions.old records.old)
+        × (length records.old ≡ 32)
         × ((n : ℕ) × Begun settings.conv (mss settings) s.now n) }
     ensures { HearsAll settings current s.now
-        (view flight outstanding.old transmissions.old (records_in records.old))
-        (view result outstanding.new transmissions.new (records_in records.new))
-        × (length records.new ≡ 128) }
+        (view flight outstanding.old transmissions.old records.old)
+        (view result outstanding.new transmissions.new records.new)
+        × (length records.new ≡ 32) }
 {
-    words_fit(records);
+    numbers_fit(records);
     let mut f = flight;
     let mut furthest = Furthest::new();
     let mut at: usize = 0;

@@ -119,7 +119,7 @@ pub fn check(
     let arrival = link.arrival;
     let clock = link.clock;
     let n = results::outstanding_count(flight);
-    let mut records = record_words::none();
+    let mut records = records::none();
     gathering::gather(table, &link.outstanding, n, &mut records);
     let lent = records::table_len(table);
     let time = check_core::check(

@@ -4,7 +4,6 @@
 ghost use Rattle.std.specs.Prelude.{◌≡◌, length};
 ghost use Rattle.control.specs.Views.{arrays, link_of, Whole};
 ghost use Rattle.checking.specs.Verdicts.{Sounds};
-ghost use Rattle.record_words.specs.RecordWords.{records_in};
 ghost use Rattle.promises.specs.Parts.{lent_lengths};
 ghost use Rattle.promises.specs.Outcomes.{checks_with};
 ghost use Rattle.promises.specs.Answers.{time_outcome};
@@ -15,6 +14,7 @@ use control::{Arrival, Clock, Flight};
 use flush_core::parts;
 use protocol::Settings;
 use sizes::Lengths;
+use timing::Record;
 
 // A check checks 7, then 13, and names the time at which the next update is wanted. `table` is the length of the lent table.
 pub fn check(
@@ -23,7 +23,7 @@ pub fn check(
     arrival: Arrival,
     clock: Clock,
     sound: bool,
-    records: &[u32; 128],
+    records: &[Record; 32],
     table: usize,
     queued: &[u32; 128],
     outstanding: &[u32; 32],
@@ -37,13 +37,13 @@ pub fn check(
     t: u32,
 ) -> Answer<u32>
     requires { Whole (arrays queued.now outstanding.now transmissions.now ready.now waiting.now waiting_numbers.now)
-        × (length records.now ≡ 128)
+        × (length records.now ≡ 32)
         × Sounds (link_of settings flight arrival clock (arrays queued.now outstanding.now
         transmissions.now ready.now waiting.now waiting_numbers.now)) sound }
     ensures { time_outcome result ≡ checks_with
         (link_of settings flight arrival clock (arrays queued.now outstanding.now transmissions.now
         ready.now waiting.now waiting_numbers.now))
-        (records_in records.now) acks.now
+        records.now acks.now
         (lent_lengths table send_pool.now receive_pool.now acks.now) t }
 {
     let lent = Lengths {

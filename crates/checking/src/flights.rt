@@ -1,7 +1,6 @@
 // The records of the outstanding segments, with their numbers, in one pass: what is carried from record to record is the least offset
 // from snd_una that the next number may have.
 ghost use Rattle.std.specs.Prelude.{◌≡◌, ◌≤◌, min, length, take};
-ghost use Rattle.record_words.specs.RecordWords.{records_in};
 ghost use Rattle.checking.specs.Tests.{record_fits, flight_fits, least_after, flown_by};
 
 use crate::numbers::timeout_fits;
@@ -57,16 +56,16 @@ pub fn flown(least: usize, flight: Flight) -> bool
 }
 
 // The outstanding segments' numbers and records: from snd_una on up to snd_nxt, at most 32 apart, the first being snd_una.
-pub fn flight_fits(records: &[u32; 128], settings: Settings, flight: Flight) -> bool
-    requires { length records.now ≡ 128 }
+pub fn flight_fits(records: &[Record; 32], settings: Settings, flight: Flight) -> bool
+    requires { length records.now ≡ 32 }
     ensures { result ≡ flight_fits settings.mode flight.una flight.next
-        (take flight.outstanding (records_in records.now)) }
+        (take flight.outstanding records.now) }
 {
     let n = looked_at(flight);
     let mut least: usize = 0;
     let mut i: usize = 0;
     while i < n {
-        let found = record_words::at(records, i);
+        let found = records[i];
         least = next_least(least, found, settings, flight);
         i += 1;
     }

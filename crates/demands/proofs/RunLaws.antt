@@ -23,6 +23,7 @@ use Rattle.delivery.specs.AlwaysValid.{opened_all}
 use Rattle.demands.specs.Steps.{Endpoint, Runs, start, next, Opens, SinceOpening}
 use Rattle.demands.specs.Stations.{station_of}
 use Rattle.demands.proofs.Simulation.{Preserved, long_flush, preserved_call, step_call}
+use Rattle.answers.specs.Answers.{Answer}
 
 -- ---- opening
 
@@ -33,7 +34,7 @@ record Fresh (c : Settings) (l : Link) (p : Parts) : Type 0 where
   counts : counts_fit l ≡ true
   state : state_in l p ≡ opened c
 
-refusal_not_accepted : {A : Type 0} {r : Refusal} → (Ok tt) ≡ Err r → A
+refusal_not_accepted : {A : Type 0} {r : Refusal} → ◌≡◌ {A = Answer} (Ok tt) (Err r) → A
 refusal_not_accepted e = absurd (let z : ◌≡◌ {A = ℕ} 0 1 = cc in omega arith)
 
 fresh : (c : Settings) (block l : Link) (lent p : Parts) → Accepts (Ok tt) (opening c (lengths_of lent))

@@ -11,7 +11,6 @@ use Rattle.protocol.specs.Ranges.{in_range, mss}
 use Rattle.protocol.specs.declared.Refusal.{Refusal}
 use Rattle.protocol.specs.declared.Settings.{Settings}
 use Rattle.timing.specs.declared.Record.{Record}
-use Rattle.record_words.specs.RecordWords.{records_in}
 use Rattle.sizes.specs.Sizes.{enough, enough_to_flush}
 use Rattle.session.specs.Decides.{and_parts}
 use Rattle.session.specs.Valid.{valid}
@@ -30,18 +29,18 @@ use Rattle.flush_core.specs.Flushes.{Flushable, put_back, unflushed_of, Runs, Co
 use Rattle.answers.specs.Answers.{Answer}
 use Rattle.std.specs.Prelude.{Err, Ok}
 
-module _ (c : Settings) (f : Flight) (a : Arrival) (k : Clock) (x : Arrays) (records : List ℕ) (table : ℕ)
+module _ (c : Settings) (f : Flight) (a : Arrival) (k : Clock) (x : Arrays) (records : List Record) (table : ℕ)
     (send_pool receive_pool acks out lengths : List ℕ) (long : Bool) (v : Answer)
     (e : long ≡ enough_to_flush (mss c) (lent_lengths table send_pool receive_pool acks) (length out) (length lengths))
-    (d : v ≡ verdict_of long (block_valid (link_of c f a k x) (records_in records) acks)) where
+    (d : v ≡ verdict_of long (block_valid (link_of c f a k x) records acks)) where
   abbrev block : Link
   block = link_of c f a k x
 
   module _ (p : v ≡ Ok tt) where
-    passes : Passes long (block_valid block (records_in records) acks)
-    passes = passed_by long (block_valid block (records_in records) acks) v d p
+    passes : Passes long (block_valid block records acks)
+    passes = passed_by long (block_valid block records acks) v d p
 
-    pub flushable : Whole x → length records ≡ 128
+    pub flushable : Whole x → length records ≡ 32
         → Flushable c f a x.queued x.outstanding x.transmissions records send_pool acks out lengths
     unfolding block_valid counts_fit valid state_of enough_to_flush enough
     flushable w whole_records =
@@ -67,8 +66,8 @@ module _ (c : Settings) (f : Flight) (a : Arrival) (k : Clock) (x : Arrays) (rec
 
     -- both checks passed
     pub ran : (paced : Bool) (t : ℕ) (r : Flushed) (l' : Link) (records' : List Record) (out' lengths' : List ℕ)
-        → Runs paced block (records_in records) send_pool acks t out lengths r l' records' out' lengths'
-        → Core paced block (records_in records) table send_pool receive_pool acks t out lengths r l' records' out' lengths'
+        → Runs paced block records send_pool acks t out lengths r l' records' out' lengths'
+        → Core paced block records table send_pool receive_pool acks t out lengths r l' records' out' lengths'
     unfolding flushes_with updates_with
     ran false t r l' records' out' lengths' h = (h.0, h.1, rw (← e, passes.long_enough_lem, passes.valid_block) h.2)
     ran true t r l' records' out' lengths' h = rw (← e, passes.long_enough_lem, passes.valid_block) h
@@ -83,11 +82,11 @@ module _ (c : Settings) (f : Flight) (a : Arrival) (k : Clock) (x : Arrays) (rec
     nothing = rw w (record { answer = refl; link = refl; puts = refl; output = refl; sizes = refl })
 
     pub unflushed : (paced : Bool)
-        → Core paced block (records_in records) table send_pool receive_pool acks t out lengths r after records' out lengths
+        → Core paced block records table send_pool receive_pool acks t out lengths r after records' out lengths
     unfolding flushes_with updates_with
     unflushed false = (
       Err q,
       ap (λ (y : Flushed). y.answer) w,
-      rw (← e, refused_by_lem _ long (block_valid block (records_in records) acks) v q d p) nothing,
+      rw (← e, refused_by_lem _ long (block_valid block records acks) v q d p) nothing,
     )
-    unflushed true = rw (← e, refused_by_lem _ long (block_valid block (records_in records) acks) v q d p) (ap (λ (y : Flushed). y.answer) w, nothing)
+    unflushed true = rw (← e, refused_by_lem _ long (block_valid block records acks) v q d p) (ap (λ (y : Flushed). y.answer) w, nothing)

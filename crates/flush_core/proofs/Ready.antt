@@ -9,9 +9,9 @@ use Rattle.protocol.specs.Protocol.{send_slots, send_window}
 use Rattle.protocol.specs.Serial.{plus, minus}
 use Rattle.protocol.specs.Ranges.{mss, controls_congestion}
 use Rattle.protocol.specs.declared.Settings.{Settings}
+use Rattle.timing.specs.declared.Record.{Record}
 use Rattle.congestion.specs.Congestions.{Countable}
 use Rattle.congestion.specs.CongestionLaws.{used_most}
-use Rattle.record_words.specs.RecordWords.{records_in}
 use Rattle.session.specs.Decides.{and_parts}
 use Rattle.session.specs.State.{Sending, send_held}
 use Rattle.session.specs.Valid.{all, held_fits, slots_fit, sending_valid, numbers_fit}
@@ -44,7 +44,7 @@ count_fits w s h k = omega arith
 flown_apart : (next una k : ℕ) → una < 2 ^ 32 → minus next una + k ≤ send_window → minus (plus next k) una ≤ send_window
 flown_apart next una k h e = omega arith
 
-module _ (c : Settings) (f : Flight) (a : Arrival) (queued outstanding transmissions records : List ℕ)
+module _ (c : Settings) (f : Flight) (a : Arrival) (queued outstanding transmissions : List ℕ) (records : List Record)
     (pool acks out lengths : List ℕ)
     (p : Flushable c f a queued outstanding transmissions records pool acks out lengths) where
   range : SettingsInRange c
@@ -72,11 +72,12 @@ module _ (c : Settings) (f : Flight) (a : Arrival) (queued outstanding transmiss
       }
 
   -- for the losses at its end
-  pub countable : (w : ℕ) (n : Flight) (queued' outstanding' transmissions' records' : List ℕ) → w ≡ window_in c f → f.una < 2 ^ 32
+  pub countable : (w : ℕ) (n : Flight) (queued' outstanding' transmissions' : List ℕ) (records' : List Record)
+      → w ≡ window_in c f → f.una < 2 ^ 32
       → Numbers f w queued outstanding transmissions records n queued' outstanding' transmissions' records'
       → (fast late : Bool) → Countable (mss c) (losses_in c n w fast late)
   countable w n queued' outstanding' transmissions' records' e below d fast late =
-      let half = sending_of f queued outstanding transmissions (records_in records) in
+      let half = sending_of f queued outstanding transmissions records in
       let k = numbered_count w half in
       let apart = ((sending_decides c half).holds p.sends).apart in
       let room = count_fits w half (numberable w e).window_fits apart in
@@ -87,7 +88,7 @@ module _ (c : Settings) (f : Flight) (a : Arrival) (queued outstanding transmiss
       }
 
   -- for writing
-  pub writable : (k : Clock) (t w : ℕ) (plan : Plan) (n : Flight) (queued' outstanding' transmissions' records' : List ℕ)
+  pub writable : (k : Clock) (t w : ℕ) (plan : Plan) (n : Flight) (queued' outstanding' transmissions' : List ℕ) (records' : List Record)
       → Plans c f a k t plan
       → Numbers f w queued outstanding transmissions records n queued' outstanding' transmissions' records'
       → Writable plan.flush a.acks acks outstanding' transmissions' records' n.outstanding pool out lengths
@@ -99,7 +100,7 @@ module _ (c : Settings) (f : Flight) (a : Arrival) (queued outstanding transmiss
           wholes = e.sent.wholes;
           whole_records = e.sent.whole_records;
           count = e.sent.fits;
-          inside = rw e.sent.list (valid_inside c (sending_of f queued outstanding transmissions (records_in records)) _ p.sends);
+          inside = rw e.sent.list (valid_inside c (sending_of f queued outstanding transmissions records) _ p.sends);
           slots = p.slots;
         };
         few = fit.acks;

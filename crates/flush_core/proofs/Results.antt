@@ -11,7 +11,7 @@ use lib.ListN.{length, take, length-map}
 use lib.Seq.{length-take-le}
 use Rattle.protocol.specs.Serial.{plus}
 use Rattle.protocol.specs.declared.Settings.{Settings}
-use Rattle.record_words.specs.RecordWords.{records_in}
+use Rattle.timing.specs.declared.Record.{Record}
 use Rattle.session.specs.State.{State}
 use Rattle.session.specs.Flushing.{numbered_count, bytes_of_segments, flushing}
 use Rattle.words.specs.Words.{unpack, held_in}
@@ -35,12 +35,12 @@ use Rattle.flush_core.specs.Flushes.{put_back, Wrote}
 use Rattle.std.specs.Prelude.{Ok, Some}
 
 module _ (c : Settings) (f : Flight) (a : Arrival) (k : Clock) (queued outstanding transmissions ready waiting numbers : List ℕ)
-    (records acks : List ℕ) (t : ℕ) where
+    (records : List Record) (acks : List ℕ) (t : ℕ) where
   abbrev block : Link
   block = link_of c f a k (arrays queued outstanding transmissions ready waiting numbers)
 
   abbrev before : State
-  before = state_of block (records_in records) acks
+  before = state_of block records acks
 
   -- what the flush goes by is of the block's state
   goes_by_lem : length ready ≡ 128 → a.ready ≤ 128 → FlushOf before t (goes_by c f a t)
@@ -51,11 +51,12 @@ module _ (c : Settings) (f : Flight) (a : Arrival) (k : Clock) (queued outstandi
       record { settings = refl; carries = rw held; timeout = refl; time = refl }
 
   module _ (pool out lengths : List ℕ) (window : ℕ) (e₁ : window ≡ window_in c f) (plan : Plan) (n : Flight)
-      (queued' outstanding' transmissions' records' : List ℕ) (w : Written) (transmissions'' records'' out' lengths' : List ℕ)
+      (queued' outstanding' transmissions' : List ℕ) (records' : List Record) (w : Written)
+      (transmissions'' : List ℕ) (records'' : List Record) (out' lengths' : List ℕ)
       (plans : Plans c f a k t plan) (numbered : Numbers f window queued outstanding transmissions records n queued' outstanding'
       transmissions' records')
       (writes : Writes plan.flush (pairs a.acks acks) plan.ask plan.tell
-      (sent_in outstanding' transmissions' (records_in records') n.outstanding) outstanding' n.outstanding pool out lengths w
+      (sent_in outstanding' transmissions' records' n.outstanding) outstanding' n.outstanding pool out lengths w
       transmissions'' records'' out' lengths')
       (whole : length ready ≡ 128) (fit : counted f a ≡ true) where
     -- what is written is what the flush of the state writes
@@ -92,10 +93,10 @@ module _ (c : Settings) (f : Flight) (a : Arrival) (k : Clock) (queued outstandi
       unfolding state_of flushing
       left = rw lost (numbered.left ∙ rw e₁)
 
-      sent : sent_in outstanding' transmissions'' (records_in records'') f'.outstanding ≡ (flushing before t pool).state.sending.outstanding
+      sent : sent_in outstanding' transmissions'' records'' f'.outstanding ≡ (flushing before t pool).state.sending.outstanding
       sent = rw lost written.sent.list
 
-      state : state_of after (records_in records'') acks ≡ (flushing before t pool).state
+      state : state_of after records'' acks ≡ (flushing before t pool).state
       unfolding state_of flushing pairs
       state =
           λ i.
@@ -133,17 +134,17 @@ module _ (c : Settings) (f : Flight) (a : Arrival) (k : Clock) (queued outstandi
 
       -- all records are put back, or, where nothing was sent, none
       puts : (changed : ℕ) → changed ≡ cond w.sent f'.outstanding 0 → PutsSent before.sending.outstanding
-          (flushing before t pool).state.sending.outstanding after (put_back outstanding' changed (records_in records''))
+          (flushing before t pool).state.sending.outstanding after (put_back outstanding' changed records'')
       puts changed e = go w.sent refl
         where
           go : (b : Bool) → w.sent ≡ b → PutsSent before.sending.outstanding
-              (flushing before t pool).state.sending.outstanding after (put_back outstanding' changed (records_in records''))
+              (flushing before t pool).state.sending.outstanding after (put_back outstanding' changed records'')
           go true h = inl (record { words = refl; changed = rw h at e })
           go false h = inr (rw h at e, idle before t pool (sym written.sends ∙ h))
 
-      pub runs : (changed : ℕ) → changed ≡ cond w.sent f'.outstanding 0 → Wrote block (records_in records) pool acks t out lengths
+      pub runs : (changed : ℕ) → changed ≡ cond w.sent f'.outstanding 0 → Wrote block records pool acks t out lengths
           (record { answer = Ok (Some w.count); flight = f'; arrival = a'; clock = k'; changed = changed })
-          after (records_in records'') out' lengths'
+          after records'' out' lengths'
       runs changed e =
           let number = written.output.number ∙ length-map (flushing before t pool).datagrams bytes_of_segments in (
             ap (λ (n : ℕ). Ok (Some n)) number,

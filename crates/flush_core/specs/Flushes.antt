@@ -15,7 +15,6 @@ use Rattle.control.specs.declared.Arrival.{Arrival}
 use Rattle.control.specs.declared.Clock.{Clock}
 use Rattle.control.specs.declared.Link.{Link}
 use Rattle.control.specs.Views.{sending_of, state_of, counted}
-use Rattle.record_words.specs.RecordWords.{records_in}
 use Rattle.promises.specs.Parts.{lent_lengths}
 use Rattle.promises.specs.Outcomes.{flushes_with, updates_with}
 use Rattle.promises.specs.Cores.{PutBack, FlushCore, UpdateCore}
@@ -25,15 +24,15 @@ use Rattle.answers.specs.Answers.{Count, Update}
 -- ---- after the checks
 
 -- what the checks of 7 and 13 have established
-pub record Flushable (c : Settings) (f : Flight) (a : Arrival) (queued outstanding transmissions records : List ℕ)
+pub record Flushable (c : Settings) (f : Flight) (a : Arrival) (queued outstanding transmissions : List ℕ) (records : List Record)
     (pool acks out lengths : List ℕ) : Type 0 where
   pub queued_whole : length queued ≡ 128
   pub outstanding_whole : length outstanding ≡ 32
   pub transmissions_whole : length transmissions ≡ 32
-  pub records_whole : length records ≡ 128
+  pub records_whole : length records ≡ 32
   pub counts : counted f a ≡ true
   pub range : in_range c ≡ true
-  pub sends : sending_valid c (sending_of f queued outstanding transmissions (records_in records)) ≡ true
+  pub sends : sending_valid c (sending_of f queued outstanding transmissions records) ≡ true
   pub slots : send_slots * mss c ≤ length pool
   pub pairs : 2 * acks_most ≤ length acks
   pub bytes : output_least ≤ length out

@@ -6,7 +6,6 @@ pub mod parts;
 ghost use Rattle.std.specs.Prelude.{◌≡◌, ℕ, List, length};
 ghost use Rattle.control.specs.Views.{arrays, link_of, Whole};
 ghost use Rattle.checking.specs.Verdicts.{Sounds};
-ghost use Rattle.record_words.specs.RecordWords.{records_in};
 ghost use Rattle.flush_core.specs.Flushes.{Flushable, unflushed_of, Wrote, Runs, Core};
 
 use answers::Answer;
@@ -14,6 +13,7 @@ use checking::flights;
 use control::{Arrival, Clock, Flight};
 use protocol::Settings;
 use sizes::Lengths;
+use timing::Record;
 
 // The answer of an update, which a flush has too, the block's numbers after it, and the number of outstanding segments whose records
 // are to be put back into the table: all of them, or none where none was sent.
@@ -45,7 +45,7 @@ fn flush_now(
     flight: Flight,
     arrival: Arrival,
     clock: Clock,
-    records: &mut [u32; 128],
+    records: &mut [Record; 32],
     queued: &mut [u32; 128],
     outstanding: &mut [u32; 32],
     transmissions: &mut [u8; 32],
@@ -60,11 +60,11 @@ fn flush_now(
     ensures { ((ready waiting numbers : List ℕ) → length ready ≡ 128 → Wrote
         (link_of settings flight arrival clock (arrays queued.old outstanding.old transmissions.old
         ready waiting numbers))
-        (records_in records.old) pool.now acks.now t output.old lengths.old result
+        records.old pool.now acks.now t output.old lengths.old result
         (link_of settings result.flight result.arrival result.clock (arrays queued.new outstanding.new
         transmissions.new ready waiting numbers))
-        (records_in records.new) output.new lengths.new)
-        × (length records.new ≡ 128) }
+        records.new output.new lengths.new)
+        × (length records.new ≡ 32) }
 {
     let plan = parts::plan_of(settings, flight, arrival, clock, t);
     let window = parts::window_of(settings, flight);
@@ -102,7 +102,7 @@ fn run(
     flight: Flight,
     arrival: Arrival,
     clock: Clock,
-    records: &mut [u32; 128],
+    records: &mut [Record; 32],
     paced: bool,
     queued: &mut [u32; 128],
     outstanding: &mut [u32; 32],
@@ -118,11 +118,11 @@ fn run(
     ensures { ((ready waiting numbers : List ℕ) → length ready ≡ 128 → Runs paced
         (link_of settings flight arrival clock (arrays queued.old outstanding.old transmissions.old
         ready waiting numbers))
-        (records_in records.old) pool.now acks.now t output.old lengths.old result
+        records.old pool.now acks.now t output.old lengths.old result
         (link_of settings result.flight result.arrival result.clock (arrays queued.new outstanding.new
         transmissions.new ready waiting numbers))
-        (records_in records.new) output.new lengths.new)
-        × (length records.new ≡ 128) }
+        records.new output.new lengths.new)
+        × (length records.new ≡ 32) }
 {
     let next = parts::step_of(paced, clock, t, settings.interval);
     if next.flushes {
@@ -154,7 +154,7 @@ pub fn flush(
     arrival: Arrival,
     clock: Clock,
     sound: bool,
-    records: &mut [u32; 128],
+    records: &mut [Record; 32],
     table: usize,
     paced: bool,
     queued: &mut [u32; 128],
@@ -171,18 +171,18 @@ pub fn flush(
     lengths: &mut [u16],
 ) -> Flushed
     requires { Whole (arrays queued.old outstanding.old transmissions.old ready.now waiting.now waiting_numbers.now)
-        × (length records.old ≡ 128)
+        × (length records.old ≡ 32)
         × Sounds (link_of settings flight arrival clock (arrays queued.old outstanding.old
         transmissions.old ready.now waiting.now waiting_numbers.now)) sound }
     ensures { Core paced
         (link_of settings flight arrival clock (arrays queued.old outstanding.old transmissions.old
         ready.now waiting.now waiting_numbers.now))
-        (records_in records.old) table send_pool.now receive_pool.now acks.now t
+        records.old table send_pool.now receive_pool.now acks.now t
         output.old lengths.old result
         (link_of settings result.flight result.arrival result.clock (arrays queued.new outstanding.new
         transmissions.new ready.now waiting.now waiting_numbers.now))
-        (records_in records.new) output.new lengths.new
-        × (length records.new ≡ 128) }
+        records.new output.new lengths.new
+        × (length records.new ≡ 32) }
 {
     let lent = Lengths {
         send: send_pool.len(),

@@ -3,8 +3,7 @@
 
 ghost use Rattle.std.specs.Prelude.{◌≡◌, ◌<◌, ◌≤◌, ◌%◌, min, length, get_or, replicate, take};
 ghost use Rattle.protocol.specs.Protocol.{send_slots};
-ghost use Rattle.records.specs.Tables.{slots_in, gathered, padded, scattered};
-ghost use Rattle.record_words.specs.RecordWords.{records_in};
+ghost use Rattle.records.specs.Tables.{blank, slots_in, gathered, padded, scattered};
 ghost use Rattle.checking.specs.Tests.{flight_fits};
 ghost use Rattle.gathering.specs.Reach.{reach};
 
@@ -49,10 +48,10 @@ fn reach(word: u32) -> usize
 
 // The records at the slots of the first n words, in their order, into an array that holds blank ones. Of the table the first 128
 // records are read.
-pub fn gather(table: &[Record], words: &[u32; 32], n: usize, records: &mut [u32; 128])
-    requires { (length words.now ≡ 32) × (records.old ≡ replicate 128 0) }
-    ensures { (length records.new ≡ 128)
-        × (records_in records.new ≡ padded (gathered (take send_slots table.now) (slots_in words.now n))) }
+pub fn gather(table: &[Record], words: &[u32; 32], n: usize, records: &mut [Record; 32])
+    requires { (length words.now ≡ 32) × (records.old ≡ replicate 32 blank) }
+    ensures { (length records.new ≡ 32)
+        × (records.new ≡ padded (gathered (take send_slots table.now) (slots_in words.now n))) }
 {
     let count = within(n);
     let mut i = 0;
@@ -60,7 +59,7 @@ pub fn gather(table: &[Record], words: &[u32; 32], n: usize, records: &mut [u32;
         let word = word_at(words, i);
         let slot = reach(word);
         let found = records::read(table, slot);
-        record_words::put(records, i, found);
+        records[i] = found;
         i += 1;
     }
 }
@@ -87,17 +86,17 @@ pub fn fit(table: &[Record], words: &[u32; 32], settings: Settings, flight: Flig
 }
 
 // Each record is stored at the slot of its word, in their order; no other record of the table changes.
-pub fn scatter(table: &mut [Record], words: &[u32; 32], n: usize, records: &[u32; 128])
-    requires { (length words.now ≡ 32) × (length records.now ≡ 128) }
+pub fn scatter(table: &mut [Record], words: &[u32; 32], n: usize, records: &[Record; 32])
+    requires { (length words.now ≡ 32) × (length records.now ≡ 32) }
     ensures { table.new
-        ≡ scattered table.old (slots_in words.now n) (records_in records.now) }
+        ≡ scattered table.old (slots_in words.now n) records.now }
 {
     let count = within(n);
     let mut i = 0;
     while i < count {
         let word = word_at(words, i);
         let slot = slot_of(word);
-        let updated = record_words::at(records, i);
+        let updated = records[i];
         records::replace(table, slot, updated);
         i += 1;
     }

@@ -2,7 +2,6 @@
 #![tactic(auto)]
 
 ghost use Rattle.std.specs.Prelude.{◌≡◌, ℕ, length};
-ghost use Rattle.record_words.specs.RecordWords.{records_in};
 ghost use Rattle.session.specs.Input.{input};
 ghost use Rattle.control.specs.Views.{arrays, link_of, Whole, state_of};
 ghost use Rattle.checking.specs.Verdicts.{ReceiveMarked};
@@ -19,6 +18,7 @@ use checking::flights;
 use control::{Arrival, Clock, Flight};
 use protocol::Settings;
 use sizes::Lengths;
+use timing::Record;
 
 // The answer, the numbers of both halves, and how many records go back into the table: the first ones, by their words.
 #[derive(Clone, Copy)]
@@ -57,7 +57,7 @@ fn hear(
     flight: Flight,
     arrival: Arrival,
     clock: Clock,
-    records: &mut [u32; 128],
+    records: &mut [Record; 32],
     queued: &[u32; 128],
     outstanding: &mut [u32; 32],
     transmissions: &mut [u8; 32],
@@ -70,10 +70,10 @@ fn hear(
     datagram: &[u8],
 ) -> Taken
     requires { Hearable (link_of settings flight arrival clock (arrays queued.now outstanding.old transmissions.old
-        ready.old waiting.old waiting_numbers.old)) (records_in records.old) marks.now acks.old receive_pool.old
-        × (length records.old ≡ 128)
+        ready.old waiting.old waiting_numbers.old)) records.old marks.now acks.old receive_pool.old
+        × (length records.old ≡ 32)
         × ((n : ℕ) × Begun settings.conv (mss settings) datagram.now n) }
-    ensures { Takes (λ l. input (state_of l (records_in records.old) acks.old)
+    ensures { Takes (λ l. input (state_of l records.old acks.old)
         receive_pool.old datagram.now)
         settings flight arrival clock
         (arrays queued.now outstanding.old transmissions.old
@@ -81,8 +81,8 @@ fn hear(
         receive_pool.old acks.old result
         (arrays queued.now outstanding.new transmissions.new
         ready.new waiting.new waiting_numbers.new)
-        (records_in records.new) receive_pool.new acks.new
-        × (length records.new ≡ 128) }
+        records.new receive_pool.new acks.new
+        × (length records.new ≡ 32) }
 {
     let sent = acknowledge::hear(
         flight,
@@ -120,7 +120,7 @@ pub fn input(
     arrival: Arrival,
     clock: Clock,
     sound: bool,
-    records: &mut [u32; 128],
+    records: &mut [Record; 32],
     table: usize,
     queued: &[u32; 128],
     outstanding: &mut [u32; 32],
@@ -135,10 +135,10 @@ pub fn input(
     datagram: &[u8],
 ) -> Taken
     requires { Whole (arrays queued.now outstanding.old transmissions.old ready.old waiting.old waiting_numbers.old)
-        × (length records.old ≡ 128)
+        × (length records.old ≡ 32)
         × ReceiveMarked (link_of settings flight arrival clock (arrays queued.now outstanding.old
         transmissions.old ready.old waiting.old waiting_numbers.old)) receive_marks.now sound }
-    ensures { Takes (λ l. takes_in_with l (records_in records.old) acks.old
+    ensures { Takes (λ l. takes_in_with l records.old acks.old
         (lent_lengths table send_pool.now receive_pool.old acks.old)
         receive_pool.old datagram.now)
         settings flight arrival clock
@@ -147,8 +147,8 @@ pub fn input(
         receive_pool.old acks.old result
         (arrays queued.now outstanding.new transmissions.new
         ready.new waiting.new waiting_numbers.new)
-        (records_in records.new) receive_pool.new acks.new
-        × (length records.new ≡ 128) }
+        records.new receive_pool.new acks.new
+        × (length records.new ≡ 32) }
 {
     let lent = Lengths {
         send: send_pool.len(),

@@ -20,8 +20,6 @@ use Rattle.session.specs.Valid.{numbers_fit}
 use Rattle.session.specs.Flushing.{numbered, numbered_count, with_numbered}
 use Rattle.session.specs.MapLaws.{map_take, map_drop}
 use Rattle.words.specs.Words.{unpack, held_in, Front}
-use Rattle.record_words.specs.RecordWords.{records_in}
-use Rattle.record_words.specs.RecordLaws.{records_length}
 use Rattle.control.specs.declared.Flight.{Flight}
 use Rattle.control.specs.Views.{sending_of}
 use Rattle.numbering.specs.Sents.{sent_in, SentFront}
@@ -31,18 +29,18 @@ use Rattle.numbering.proofs.SentLaws.{sents, sents_take, sents_set, sents_length
 -- ---- the loop
 
 -- i of the k queued segments stand behind the n outstanding ones
-pub record Numbering (queued : List ℕ) (k n next : ℕ) (ws₀ ts₀ rs₀ ws ts rs : List ℕ)
+pub record Numbering (queued : List ℕ) (k n next : ℕ) (ws₀ ts₀ : List ℕ) (rs₀ : List Record) (ws ts : List ℕ) (rs : List Record)
     (number i j : ℕ) : Type 0 where
   pub within : i ≤ k
   pub place : j ≡ n + i
   pub whole : length ws ≡ 32
   pub wholes : length ts ≡ 32
-  pub whole_records : length rs ≡ 128
-  pub written : Written 32 (sents ws ts (records_in rs)) (numbered number (map unpack (drop i (take k queued))))
-      (sent_in ws₀ ts₀ (records_in rs₀) n ++ numbered next (held_in queued k)) j
+  pub whole_records : length rs ≡ 32
+  pub written : Written 32 (sents ws ts rs) (numbered number (map unpack (drop i (take k queued))))
+      (sent_in ws₀ ts₀ rs₀ n ++ numbered next (held_in queued k)) j
 
-module _ (queued : List ℕ) (k n next : ℕ) (ws₀ ts₀ rs₀ : List ℕ) where
-  pub numbering_start : n + k ≤ 32 → length ws₀ ≡ 32 → length ts₀ ≡ 32 → length rs₀ ≡ 128
+module _ (queued : List ℕ) (k n next : ℕ) (ws₀ ts₀ : List ℕ) (rs₀ : List Record) where
+  pub numbering_start : n + k ≤ 32 → length ws₀ ≡ 32 → length ts₀ ≡ 32 → length rs₀ ≡ 32
       → Numbering queued k n next ws₀ ts₀ rs₀ ws₀ ts₀ rs₀ next 0 n
   numbering_start h e f g =
       record {
@@ -51,30 +49,30 @@ module _ (queued : List ℕ) (k n next : ℕ) (ws₀ ts₀ rs₀ : List ℕ) whe
         whole = e;
         wholes = f;
         whole_records = g;
-        written = rw (sents_take ws₀ ts₀ (records_in rs₀) n)
-            (written_start _ n (sents_length ws₀ ts₀ (records_in rs₀) e f (records_length 32 rs₀ g)) (omega arith));
+        written = rw (sents_take ws₀ ts₀ rs₀ n)
+            (written_start _ n (sents_length ws₀ ts₀ rs₀ e f g) (omega arith));
       }
 
-  module _ (ws ts rs : List ℕ) (number i j : ℕ) (w : Numbering queued k n next ws₀ ts₀ rs₀ ws ts rs number i j) where
+  module _ (ws ts : List ℕ) (rs : List Record) (number i j : ℕ) (w : Numbering queued k n next ws₀ ts₀ rs₀ ws ts rs number i j) where
     -- the next one is numbered
-    pub numbering_more : (r : Record) (rs' : List ℕ) (number' : ℕ) → length queued ≡ 128 → n + k ≤ 32 → i < k
+    pub numbering_more : (r : Record) (number' : ℕ) → length queued ≡ 128 → n + k ≤ 32 → i < k
         → r ≡ record { number = number; due = 0; timeout = 0; skips = 0 }
-        → (length rs' ≡ 128) × (records_in rs' ≡ set (records_in rs) j r) → number' ≡ plus number 1
-        → Numbering queued k n next ws₀ ts₀ rs₀ (set ws j (get_or queued i 0)) (set ts j 0) rs' number' (i + 1) (j + 1)
+        → number' ≡ plus number 1
+        → Numbering queued k n next ws₀ ts₀ rs₀ (set ws j (get_or queued i 0)) (set ts j 0) (set rs j r) number' (i + 1) (j + 1)
     unfolding numbered
-    numbering_more r rs' number' q b h e g f =
+    numbering_more r number' q b h e f =
         record {
           within = omega arith;
           place = omega (arith, w.place);
           whole = length-set ws j (get_or queued i 0) ∙ w.whole;
           wholes = length-set ts j 0 ∙ w.wholes;
-          whole_records = g.0;
-          written = rw (g.1, ← (sents_set ws ts (records_in rs) j (get_or queued i 0) 0 r), e, f)
+          whole_records = length-set rs j r ∙ w.whole_records;
+          written = rw (← (sents_set ws ts rs j (get_or queued i 0) 0 r), e, f)
               (written_put (omega (arith, w.place)) (rw (view_next queued k i 0 h (omega arith)) at w.written));
         }
 
     -- all are
-    pub numbering_done : k ≤ i → SentFront ws ts rs (n + k) (sent_in ws₀ ts₀ (records_in rs₀) n ++ numbered next (held_in queued k))
+    pub numbering_done : k ≤ i → SentFront ws ts rs (n + k) (sent_in ws₀ ts₀ rs₀ n ++ numbered next (held_in queued k))
     unfolding numbered
     numbering_done h =
         let all : n + k ≡ j = omega (arith, w.place, w.within) in
@@ -105,10 +103,10 @@ count_of_lem : (w : ℕ) (s : Sending) → numbered_count w s ≡ count_of (leng
 unfolding numbered_count
 count_of_lem w s = refl
 
-module _ (f : Flight) (window : ℕ) (queued outstanding transmissions records : List ℕ) (k : ℕ)
+module _ (f : Flight) (window : ℕ) (queued outstanding transmissions : List ℕ) (records : List Record) (k : ℕ)
     (n : Numberable f window queued outstanding transmissions records) (e : k ≡ count_of f.queued window f.next f.una) where
   abbrev half : Sending
-  half = sending_of f queued outstanding transmissions (records_in records)
+  half = sending_of f queued outstanding transmissions records
 
   held : length (held_in queued f.queued) ≡ f.queued
   held = length-map (take f.queued queued) unpack ∙ length-take-le f.queued queued (omega (arith, n.queued_fits, n.queued_whole))
@@ -125,8 +123,8 @@ module _ (f : Flight) (window : ℕ) (queued outstanding transmissions records :
     arith,
     valid_few window half n.window_fits n.numbers,
     counted,
-    front_length outstanding transmissions (records_in records) n.outstanding_whole n.transmissions_whole
-        (records_length 32 records n.records_whole) f.outstanding n.outstanding_fits,
+    front_length outstanding transmissions records n.outstanding_whole n.transmissions_whole
+        n.records_whole f.outstanding n.outstanding_fits,
   )
 
   -- ---- what is left
@@ -145,9 +143,9 @@ module _ (f : Flight) (window : ℕ) (queued outstanding transmissions records :
       }
 
   -- some are numbered
-  pub numbers_some : (next : ℕ) (queued' outstanding' transmissions' records' : List ℕ)
+  pub numbers_some : (next : ℕ) (queued' outstanding' transmissions' : List ℕ) (records' : List Record)
       → SentFront outstanding' transmissions' records' (f.outstanding + k)
-      (sent_in outstanding transmissions (records_in records) f.outstanding ++ numbered f.next (held_in queued k))
+      (sent_in outstanding transmissions records f.outstanding ++ numbered f.next (held_in queued k))
       → Front 128 queued' (f.queued - k) (drop k (take f.queued queued))
       → next ≡ plus f.next k
       → Numbers f window queued outstanding transmissions records (flown next) queued' outstanding' transmissions' records'

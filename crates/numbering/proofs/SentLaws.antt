@@ -14,7 +14,6 @@ use Rattle.lists.specs.Joining.{with_record, joined}
 use Rattle.lists.specs.JoiningLaws.{length_joined, take_joined, get_joined, set_joined}
 use Rattle.words.specs.Words.{paired, outstanding_at}
 use Rattle.words.proofs.Pairs.{paired_take, paired_length, paired_set, paired_get}
-use Rattle.record_words.specs.RecordWords.{records_in}
 use Rattle.numbering.specs.Sents.{sent_in, SentFront}
 
 module _ (ws ts : List ℕ) (rs : List Record) where
@@ -49,7 +48,7 @@ module _ (ws ts : List ℕ) (rs : List Record) where
       ∙ ap (λ (o : Outstanding). with_record o (get_or rs i r)) (paired_get outstanding_at ws ts i (outstanding_at 0 0) h g)
 
 -- a list that stands in the front of all
-pub sents_front : (ws ts rs : List ℕ) (n : ℕ) (l : List Sent) → length ws ≡ 32 → length ts ≡ 32 → length rs ≡ 128
-    → Holds 32 (sents ws ts (records_in rs)) n l → SentFront ws ts rs n l
+pub sents_front : (ws ts : List ℕ) (rs : List Record) (n : ℕ) (l : List Sent) → length ws ≡ 32 → length ts ≡ 32 → length rs ≡ 32
+    → Holds 32 (sents ws ts rs) n l → SentFront ws ts rs n l
 sents_front ws ts rs n l e f g h =
-    record { whole = e; wholes = f; whole_records = g; fits = h.fits; list = sents_take ws ts (records_in rs) n ∙ h.list }
+    record { whole = e; wholes = f; whole_records = g; fits = h.fits; list = sents_take ws ts rs n ∙ h.list }

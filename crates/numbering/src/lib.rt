@@ -4,7 +4,6 @@
 ghost use Rattle.std.specs.Prelude.{◌≡◌, ◌++◌, ◌+◌, ◌≤◌, min, length};
 ghost use Rattle.session.specs.Flushing.{numbered};
 ghost use Rattle.words.specs.Words.{held_in};
-ghost use Rattle.record_words.specs.RecordWords.{records_in};
 ghost use Rattle.numbering.specs.Sents.{sent_in, SentFront};
 ghost use Rattle.numbering.specs.Numbering.{count_of, Numberable, Numbers};
 
@@ -49,13 +48,13 @@ fn number_first(
     outstanding: &mut [u32; 32],
     transmissions: &mut [u8; 32],
     n: usize,
-    records: &mut [u32; 128],
+    records: &mut [Record; 32],
     next: u32,
 )
     requires { (length queued.now ≡ 128) × (length outstanding.old ≡ 32) × (length transmissions.old ≡ 32)
-        × (length records.old ≡ 128) × (n + k ≤ 32) }
+        × (length records.old ≡ 32) × (n + k ≤ 32) }
     ensures { SentFront outstanding.new transmissions.new records.new (n + k)
-        (sent_in outstanding.old transmissions.old (records_in records.old) n
+        (sent_in outstanding.old transmissions.old records.old n
         ++ numbered next (held_in queued.now k)) }
 {
     let mut number = next;
@@ -64,7 +63,7 @@ fn number_first(
     while i < k {
         outstanding[j] = queued[i];
         transmissions[j] = 0;
-        record_words::put(records, j, numbered_record(number));
+        records[j] = numbered_record(number);
         number = serial::sum(number, 1);
         i += 1;
         j += 1;
@@ -78,7 +77,7 @@ pub fn number(
     queued: &mut [u32; 128],
     outstanding: &mut [u32; 32],
     transmissions: &mut [u8; 32],
-    records: &mut [u32; 128],
+    records: &mut [Record; 32],
 ) -> Flight
     requires { Numberable flight window queued.old outstanding.old transmissions.old records.old }
     ensures { Numbers flight window queued.old outstanding.old transmissions.old

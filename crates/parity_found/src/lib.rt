@@ -9,7 +9,7 @@ ghost use Rattle.parity_found.specs.Ready.{Ready, Whole, found_in, len_in, datag
 
 use frames::lent;
 use parity_scan::Held;
-use wire::number;
+use wire::number::Number;
 
 // A group: its settings, the places lost, 12 for none, and where the shards of the others are held.
 #[derive(Clone, Copy)]
@@ -51,7 +51,7 @@ pub fn len_of<'a>(g: Group, s: &'a [u8], a: &'a [u8], b: &'a [u8], p: usize) -> 
     ensures { (result ≡ len_in g s.now p) × (result < 65536) }
 {
     let t = found_shard(g, s, a, b, p);
-    lent::wide(number::read_u16(t, 0))
+    lent::wide(u16::read(t, 0))
 }
 
 // The shard at place p as its len says.
@@ -60,7 +60,7 @@ pub fn trimmed<'a>(g: Group, s: &'a [u8], a: &'a [u8], b: &'a [u8], p: usize) ->
     ensures { result.now ≡ shard (datagram_in g s.now p) }
 {
     let t = found_shard(g, s, a, b, p);
-    let n = lent::wide(number::read_u16(t, 0));
+    let n = lent::wide(u16::read(t, 0));
     &t[..n]
 }
 

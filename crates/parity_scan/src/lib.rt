@@ -9,7 +9,7 @@ ghost use Rattle.frames.specs.Reading.{sequence_of, frame_ok, group_of, place_of
 ghost use Rattle.parity_scan.specs.Held.{noted, sized, Empty, Scans};
 
 use frames::{Frames, lent};
-use wire::number;
+use wire::number::Number;
 
 // Where the shard of each place lies among the packed frames, and its size; size 0 where none is held.
 #[derive(Clone, Copy)]
@@ -37,7 +37,7 @@ fn sequence_at(s: &[u8], at: usize, n: usize) -> usize
     requires { (4 ≤ n) × (at + n ≤ length s.now) }
     ensures { result ≡ sequence_of (take n (drop at s.now)) }
 {
-    wide(number::read_u32(s, at))
+    wide(u32::read(s, at))
 }
 
 // The 16-bit number at byte i of that frame.
@@ -45,7 +45,7 @@ fn half_at(s: &[u8], at: usize, n: usize, i: usize) -> u16
     requires { (i + 2 ≤ n) × (at + n ≤ length s.now) }
     ensures { result ≡ number_at 2 (take n (drop at s.now)) i }
 {
-    number::read_u16(s, at + i)
+    u16::read(s, at + i)
 }
 
 // The group of that frame.

@@ -6,7 +6,7 @@ ghost use Rattle.frames.specs.Frames.{data_type, shard, frame, frame_at};
 ghost use Rattle.parity_writer.specs.Room.{FitsData};
 
 use frames::{Frames, lent};
-use wire::number;
+use wire::number::Number;
 
 // The data frame of the datagram of n bytes at `from`, put at `at`.
 fn put_data(out: &mut [u8], at: usize, sequence: u32, s: &[u8], from: usize, n: usize)
@@ -14,9 +14,10 @@ fn put_data(out: &mut [u8], at: usize, sequence: u32, s: &[u8], from: usize, n: 
     ensures { out.new
         ≡ sets out.old at (frame sequence data_type (shard (take n (drop from s.now)))) }
 {
-    number::put_u32(out, at, sequence);
-    number::put_u16(out, at + 4, Frames::DATA);
-    number::put_u16(out, at + 6, (n + 2) as u16);
+    sequence.put(out, at);
+    Frames::DATA.put(out, at + 4);
+    let len = (n + 2) as u16;
+    len.put(out, at + 6);
     pools::copy_part(s, from, n, out, at + Frames::HEADER);
 }
 

@@ -8,7 +8,7 @@ ghost use Rattle.frames.specs.Lists.{add_up, largest, parts};
 ghost use Rattle.frames.specs.Frames.{parity_type, shard, parity_shard, frame};
 
 use frames::{Frames, lent};
-use wire::number;
+use wire::number::Number;
 
 // The largest of the lengths.
 pub fn largest_of(lengths: &[u16]) -> u16
@@ -73,7 +73,7 @@ pub fn put_parity(
 {
     let size = lent::wide(largest_of(lengths)) + 2;
     let shard = at + Frames::SHARD;
-    number::put_u32(out, at, sequence);
-    number::put_u16(out, at + 4, Frames::PARITY);
+    sequence.put(out, at);
+    Frames::PARITY.put(out, at + 4);
     parity_row(w, s, lengths, total, &mut out[shard..shard + size]);
 }

@@ -10,9 +10,5 @@ pub fn copy_part(src: &[u8], from: usize, len: usize, out: &mut [u8], at: usize)
     requires { (from + len ≤ length src.now) × (at + len ≤ length out.old) }
     ensures { out.new ≡ sets out.old at (part src.now from len) }
 {
-    let mut i: usize = 0;
-    while i < len {
-        out[at + i] = src[from + i];
-        i += 1;
-    }
+    out[at..at + len].copy_from_slice(&src[from..from + len]);
 }

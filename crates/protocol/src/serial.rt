@@ -17,18 +17,21 @@ pub fn difference(a: u32, b: u32) -> u32
 }
 
 // A number read as signed.
+#[tactic(auto, unfolding(crate::specs::Serial::signed))]
 pub fn read_signed(x: u32) -> i64
     ensures { result ≡ signed x }
 {
     i64::from(x.cast_signed())
 }
 
+#[tactic(auto, unfolding(crate::specs::Serial::is_before))]
 pub fn before(a: u32, b: u32) -> bool
     ensures { result ≡ is_before a b }
 {
     read_signed(difference(a, b)) < 0
 }
 
+#[tactic(auto, unfolding(crate::specs::Serial::is_after))]
 pub fn after(a: u32, b: u32) -> bool
     ensures { result ≡ is_after a b }
 {
@@ -36,6 +39,7 @@ pub fn after(a: u32, b: u32) -> bool
 }
 
 // Whether the time d is due at t.
+#[tactic(auto, unfolding(crate::specs::Serial::is_due))]
 pub fn due(t: u32, d: u32) -> bool
     ensures { result ≡ is_due t d }
 {

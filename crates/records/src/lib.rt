@@ -1,10 +1,26 @@
-// The lent table of records, one for each send slot: its length, and one record read or replaced.
+// The lent table of records, one for each send slot: its length, and one record read or replaced; and no record yet, for those of the
+// outstanding segments.
 #![tactic(auto)]
 
-ghost use Rattle.std.specs.Prelude.{◌≡◌, length, get_or, set};
+ghost use Rattle.std.specs.Prelude.{◌≡◌, length, get_or, set, replicate};
 ghost use Rattle.records.specs.Tables.{blank};
 
 use timing::Record;
+
+// A record of no segment.
+const BLANK: Record = Record {
+    number: 0,
+    due: 0,
+    timeout: 0,
+    skips: 0,
+};
+
+// No record yet: 32 blank ones.
+pub fn none() -> [Record; 32]
+    ensures { result ≡ replicate 32 blank }
+{
+    [BLANK; 32]
+}
 
 // How many records the table has.
 pub fn table_len(table: &[Record]) -> usize
@@ -20,12 +36,7 @@ pub fn read(table: &[Record], slot: usize) -> Record
     if slot < table.len() {
         table[slot]
     } else {
-        Record {
-            number: 0,
-            due: 0,
-            timeout: 0,
-            skips: 0,
-        }
+        BLANK
     }
 }
 

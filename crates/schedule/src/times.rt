@@ -1,10 +1,10 @@
 // The schedule of flushes, moved on by each update and asked by each check.
 ghost use Rattle.std.specs.Prelude.{◌≡◌, ◌≤◌, min, length, take};
-ghost use Rattle.record_words.specs.RecordWords.{records_in};
 ghost use Rattle.schedule.specs.Schedules.{is_astray, corrected, started, following, updated, ahead, dues_of, earliest, named};
 
 use crate::{Schedule, Updated};
 use protocol::{Protocol, serial};
+use timing::Record;
 
 // Whether now is 10,000 or more past the next flush time, or more than that before it.
 fn is_astray(now: u32, next: u32) -> bool
@@ -65,14 +65,14 @@ fn held(n: usize) -> usize
 }
 
 // How long it is from t until the first of n segments is due, and no longer than most.
-fn earliest(t: u32, most: u32, records: &[u32; 128], n: usize) -> u32
-    requires { (length records.now ≡ 128) × (n ≤ 32) }
-    ensures { result ≡ earliest t most (dues_of (take n (records_in records.now))) }
+fn earliest(t: u32, most: u32, records: &[Record; 32], n: usize) -> u32
+    requires { (length records.now ≡ 32) × (n ≤ 32) }
+    ensures { result ≡ earliest t most (dues_of (take n records.now)) }
 {
     let mut wait = most;
     let mut i: usize = 0;
     while i < n {
-        let one = record_words::at(records, i);
+        let one = records[i];
         wait = least(wait, ahead(t, one.due));
         i += 1;
     }
@@ -103,9 +103,9 @@ impl Schedule {
 
     // The time at which the next update is wanted: the next flush, or the first due time of n outstanding segments, at most
     // one interval away; t itself before the first update.
-    pub fn check(self, t: u32, interval: u16, records: &[u32; 128], n: usize) -> u32
-        requires { length records.now ≡ 128 }
-        ensures { result ≡ named self t interval (dues_of (take n (records_in records.now))) }
+    pub fn check(self, t: u32, interval: u16, records: &[Record; 32], n: usize) -> u32
+        requires { length records.now ≡ 32 }
+        ensures { result ≡ named self t interval (dues_of (take n records.now)) }
     {
         if !self.made {
             return t;

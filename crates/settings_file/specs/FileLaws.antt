@@ -18,26 +18,7 @@ use Rattle.protocol.specs.declared.Settings.{Settings}
 use Rattle.wire.specs.LittleEndian.{bytes_of, number_at, AllBytes}
 use Rattle.wire.specs.LittleEndianLaws.{number_of_bytes, bytes_of_number, length_bytes_of}
 use Rattle.wire.specs.Stores.{sets_append}
-use Rattle.settings_file.specs.Files.{
-  fits_first,
-  magic,
-  front,
-  back,
-  added,
-  first_of,
-  second_of,
-  file_of,
-  write_into,
-  Writes,
-  same_first,
-  has_magic,
-  settings_at,
-  first_ranged,
-  second_ranged,
-  read_first,
-  read_second,
-  read_from,
-}
+use Rattle.settings_file.specs.Files.{fits_first, magic, front, back, added, first_of, second_of, file_of, write_into, Writes, same_first, has_magic, settings_at, read_first, read_second, read_from}
 use Rattle.settings_file.specs.declared.FileRefusal.{FileRefusal}
 use Rattle.settings_file.specs.declared.FileRefusal.TheVariants.{
   ShortPart,
@@ -46,7 +27,6 @@ use Rattle.settings_file.specs.declared.FileRefusal.TheVariants.{
   UnknownVersion,
   NeedlessVersion,
 }
-use Rattle.settings_file.specs.declared.Reading.{Reading}
 use Rattle.settings_file.specs.declared.Writing.TheVariants as writing
 use Rattle.settings_file.specs.declared.Reading.TheVariants as reading
 

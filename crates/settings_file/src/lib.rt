@@ -25,7 +25,7 @@ ghost use Rattle.settings_file.specs.Files.{
 };
 
 use protocol::Settings;
-use wire::number;
+use wire::number::Number;
 
 // The magic, which every file begins with.
 const MAGIC: [u8; 3] = *b"KLS";
@@ -98,7 +98,7 @@ fn put_front(out: &mut [u8], version: u16)
 {
     let magic = MAGIC;
     pools::copy_part(&magic, 0, 3, out, 0);
-    number::put_u16(out, 3, version);
+    version.put(out, 3);
 }
 
 // The settings of both versions, behind magic and version.
@@ -106,11 +106,11 @@ fn put_back(out: &mut [u8], settings: Settings)
     requires { first_size ≤ length out.old }
     ensures { out.new ≡ sets out.old 5 (back settings) }
 {
-    number::put_u32(out, 5, settings.conv);
-    number::put_u16(out, 9, settings.mtu);
-    number::put_u8(out, 11, settings.mode);
-    number::put_u16(out, 12, settings.interval);
-    number::put_u8(out, 14, settings.threshold);
+    settings.conv.put(out, 5);
+    settings.mtu.put(out, 9);
+    settings.mode.put(out, 11);
+    settings.interval.put(out, 12);
+    settings.threshold.put(out, 14);
 }
 
 // What version 2 adds.
@@ -118,8 +118,8 @@ fn put_added(out: &mut [u8], settings: Settings)
     requires { second_size ≤ length out.old }
     ensures { out.new ≡ sets out.old 15 (added settings) }
 {
-    number::put_u8(out, 15, settings.stream);
-    number::put_u8(out, 16, settings.congestion);
+    settings.stream.put(out, 15);
+    settings.congestion.put(out, 16);
 }
 
 // The file of these settings, and how many bytes it has.
@@ -174,11 +174,11 @@ fn settings_at(file: &[u8], stream: u8, congestion: u8) -> Settings
     ensures { result ≡ settings_at file.now stream congestion }
 {
     Settings {
-        conv: number::read_u32(file, 5),
-        mtu: number::read_u16(file, 9),
-        interval: number::read_u16(file, 12),
-        mode: number::read_u8(file, 11),
-        threshold: number::read_u8(file, 14),
+        conv: u32::read(file, 5),
+        mtu: u16::read(file, 9),
+        interval: u16::read(file, 12),
+        mode: u8::read(file, 11),
+        threshold: u8::read(file, 14),
         stream,
         congestion,
     }
@@ -225,8 +225,8 @@ fn read_second(file: &[u8]) -> Reading
     if file.len() != SECOND_SIZE {
         return Reading::Refused(FileRefusal::NotSettings);
     }
-    let stream = number::read_u8(file, 15);
-    let congestion = number::read_u8(file, 16);
+    let stream = u8::read(file, 15);
+    let congestion = u8::read(file, 16);
     second_ranged(settings_at(file, stream, congestion))
 }
 
@@ -238,7 +238,7 @@ pub fn read(file: &[u8]) -> Reading
         return Reading::Refused(FileRefusal::NotSettings);
     }
     if has_magic(file) {
-        let version = number::read_u16(file, 3);
+        let version = u16::read(file, 3);
         if version == FIRST {
             return read_first(file);
         }

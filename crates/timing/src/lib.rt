@@ -1,13 +1,12 @@
 // The link's times: round trips and timeouts, the probe clock, and the record of an outstanding segment.
 #![tactic(auto)]
 
-mod number;
 pub mod probe;
 pub mod round_trip;
 
 // What is known of the round trip: the smoothed time, its variation, and the link's timeout.
 #[repr(C)]
-#[derive(Clone, Copy)]
+#[derive(Clone, Copy, Default)]
 pub struct RoundTrip {
     pub smoothed: u32,
     pub variation: u32,
@@ -16,7 +15,7 @@ pub struct RoundTrip {
 
 // The probe clock: how long it waits between two asks (0: it is stopped), and when the next ask is due.
 #[repr(C)]
-#[derive(Clone, Copy)]
+#[derive(Clone, Copy, Default)]
 pub struct ProbeClock {
     pub wait: u32,
     pub due: u32,
@@ -31,7 +30,7 @@ pub struct Probed {
 
 // The record of a send slot: the segment's number, when it is due, its timeout, and its skips.
 #[repr(C)]
-#[derive(Clone, Copy)]
+#[derive(Clone, Copy, Default)]
 pub struct Record {
     pub number: u32,
     pub due: u32,

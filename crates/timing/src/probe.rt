@@ -2,7 +2,7 @@
 ghost use Rattle.std.specs.Prelude.{◌≡◌};
 ghost use Rattle.timing.specs.Probes.{started, longer_wait, grown, next_clock};
 
-use crate::{ProbeClock, Probed, number};
+use crate::{ProbeClock, Probed};
 use protocol::{Protocol, serial};
 
 // The clock at the first flush with window 0.
@@ -16,13 +16,12 @@ fn started(t: u32) -> ProbeClock
 }
 
 // A wait grown by half.
+#[tactic(auto, unfolding(crate::specs::Probes::longer_wait))]
 fn longer_wait(wait: u32) -> u32
     ensures { result ≡ longer_wait wait }
 {
-    number::capped(
-        Protocol::PROBE_WAIT_MOST,
-        number::wide(wait) + number::wide(wait / 2),
-    )
+    let longer = u64::from(wait) + u64::from(wait / 2);
+    longer.min(u64::from(Protocol::PROBE_WAIT_MOST)) as u32
 }
 
 // The clock that is due.
@@ -38,12 +37,13 @@ fn grown(wait: u32, t: u32) -> ProbeClock
 
 impl ProbeClock {
     // The clock after a flush at t that finds this window of the peer, and whether an ask is wanted.
+    #[tactic(auto, unfolding(crate::specs::Probes::next_clock))]
     pub fn next(self, t: u32, window: u16) -> Probed
         ensures { result ≡ next_clock self t window }
     {
         if 0 < window {
             return Probed {
-                clock: ProbeClock { wait: 0, due: 0 },
+                clock: ProbeClock::default(),
                 ask: false,
             };
         }

@@ -24,8 +24,6 @@ use Rattle.packing.specs.declared.Packer.{Packer}
 use Rattle.packing.specs.Packers.{Fills, Room, Adds}
 use Rattle.packing.specs.PackerLaws.{adds_none, adds_append, adds_as, room_left}
 use Rattle.words.specs.Words.{unpack, outstanding_at}
-use Rattle.record_words.specs.RecordWords.{records_in}
-use Rattle.record_words.specs.RecordLaws.{records_length}
 use Rattle.numbering.specs.Sents.{sent_in}
 use Rattle.numbering.proofs.SentLaws.{sents, sents_take, sents_set, sents_get, sents_length, sents_front}
 use Rattle.transmit.specs.declared.Flush.{Flush}
@@ -80,10 +78,10 @@ module _ (f : Flush) (y x : Sent) (sends : Bool) (p : sends ≡ (rule_of f y).ru
 
 -- The first i of the n segments have been handled.
 pub record Walking (f : Flush) (n : ℕ) (pool : List ℕ) (k₀ : Packer) (out₀ lengths₀ : List ℕ) (l₀ : List Sent)
-    (ws ts rs : List ℕ) (k : Packer) (out lengths : List ℕ) (b b₁ b₂ b₃ : Bool) (i : ℕ) : Type 0 where
+    (ws ts : List ℕ) (rs : List Record) (k : Packer) (out lengths : List ℕ) (b b₁ b₂ b₃ : Bool) (i : ℕ) : Type 0 where
   pub wholes : length ts ≡ 32
-  pub whole_records : length rs ≡ 128
-  pub list : Packed 32 n l₀ (sents ws ts (records_in rs)) (left_by f (drop i (take n l₀))) (left_by f (take n l₀)) i i
+  pub whole_records : length rs ≡ 32
+  pub list : Packed 32 n l₀ (sents ws ts rs) (left_by f (drop i (take n l₀))) (left_by f (take n l₀)) i i
   pub adds : Adds f.settings.mtu (map (data_of f pool) (sent_by f (take i (take n l₀)))) (i * f.settings.mtu) i k₀ out₀ lengths₀ k out
       lengths
   pub dead : b ≡ some_dead (sent_by f (take i (take n l₀)))
@@ -92,7 +90,8 @@ pub record Walking (f : Flush) (n : ℕ) (pool : List ℕ) (k₀ : Packer) (out�
   pub sends : b₃ ≡ sends_by f (take i (take n l₀))
 
 -- the same, by other names
-pub walking_as : {f : Flush} {n : ℕ} {pool : List ℕ} {k₀ : Packer} {out₀ lengths₀ : List ℕ} {l₀ : List Sent} {ws ts ts' rs rs' : List ℕ}
+pub walking_as : {f : Flush} {n : ℕ} {pool : List ℕ} {k₀ : Packer} {out₀ lengths₀ : List ℕ} {l₀ : List Sent}
+    {ws ts ts' : List ℕ} {rs rs' : List Record}
     {k k' : Packer} {out out' lengths lengths' : List ℕ} {b b' late late' fast fast' sent sent' : Bool} {i : ℕ}
     → ts' ≡ ts → rs' ≡ rs → out' ≡ out → lengths' ≡ lengths → k' ≡ k → b' ≡ b → late' ≡ late → fast' ≡ fast
     → sent' ≡ sent
@@ -100,15 +99,15 @@ pub walking_as : {f : Flush} {n : ℕ} {pool : List ℕ} {k₀ : Packer} {out₀
     → Walking f n pool k₀ out₀ lengths₀ l₀ ws ts' rs' k' out' lengths' b' late' fast' sent' i
 walking_as et er eo el ek eb ea ef es w = rw (et, er, eo, el, ek, eb, ea, ef, es) w
 
-pub walking_start : (f : Flush) (n : ℕ) (pool : List ℕ) (k₀ : Packer) (out₀ lengths₀ ws ts rs : List ℕ)
-    → n ≤ 32 → length ws ≡ 32 → length ts ≡ 32 → length rs ≡ 128 → Fills f.settings.mtu k₀
-    → Walking f n pool k₀ out₀ lengths₀ (sents ws ts (records_in rs)) ws ts rs k₀ out₀ lengths₀ false false false false 0
+pub walking_start : (f : Flush) (n : ℕ) (pool : List ℕ) (k₀ : Packer) (out₀ lengths₀ ws ts : List ℕ) (rs : List Record)
+    → n ≤ 32 → length ws ≡ 32 → length ts ≡ 32 → length rs ≡ 32 → Fills f.settings.mtu k₀
+    → Walking f n pool k₀ out₀ lengths₀ (sents ws ts rs) ws ts rs k₀ out₀ lengths₀ false false false false 0
 unfolding transmitted
 walking_start f n pool k₀ out₀ lengths₀ ws ts rs h ew et er q =
     record {
       wholes = et;
       whole_records = er;
-      list = packed_start _ 0 0 (omega arith) (omega arith) h (sents_length ws ts (records_in rs) ew et (records_length 32 rs er));
+      list = packed_start _ 0 0 (omega arith) (omega arith) h (sents_length ws ts rs ew et er);
       adds = adds_as (adds_none f.settings.mtu k₀ out₀ lengths₀ q) refl (omega arith) (omega arith);
       dead = refl;
       late = refl;
@@ -116,7 +115,7 @@ walking_start f n pool k₀ out₀ lengths₀ ws ts rs h ew et er q =
       sends = refl;
     }
 
-module _ (f : Flush) (n : ℕ) (pool : List ℕ) (k₀ : Packer) (out₀ lengths₀ : List ℕ) (l₀ : List Sent) (ws ts rs : List ℕ)
+module _ (f : Flush) (n : ℕ) (pool : List ℕ) (k₀ : Packer) (out₀ lengths₀ : List ℕ) (l₀ : List Sent) (ws ts : List ℕ) (rs : List Record)
     (k : Packer) (out lengths : List ℕ) (dead late fast sent : Bool) (i : ℕ)
     (w : Walking f n pool k₀ out₀ lengths₀ l₀ ws ts rs k out lengths dead late fast sent i) where
   module _ (h : i < n) where
@@ -130,10 +129,10 @@ module _ (f : Flush) (n : ℕ) (pool : List ℕ) (k₀ : Packer) (out₀ lengths
     module _ (whole : length ws ≡ 32) (r : Record) where
       -- what is read next
       abbrev read : Sent
-      read = with_record (outstanding_at (get_or ws i 0) (get_or ts i 0)) (get_or (records_in rs) i r)
+      read = with_record (outstanding_at (get_or ws i 0) (get_or ts i 0)) (get_or rs i r)
 
-      here : get_or (sents ws ts (records_in rs)) i (with_record (outstanding_at 0 0) r) ≡ read
-      here = sents_get ws ts (records_in rs) i r (omega (arith, w.list.room)) (omega (arith, w.list.room, w.wholes))
+      here : get_or (sents ws ts rs) i (with_record (outstanding_at 0 0) r) ≡ read
+      here = sents_get ws ts rs i r (omega (arith, w.list.room)) (omega (arith, w.list.room, w.wholes))
           (omega (arith, w.list.room, w.list.written.whole))
 
       next : drop i (take n l₀) ≡ read ∷ drop (i + 1) (take n l₀)
@@ -148,9 +147,9 @@ module _ (f : Flush) (n : ℕ) (pool : List ℕ) (k₀ : Packer) (out₀ lengths
         after = rw e
 
         -- a turn
-        turn : (ts' rs' : List ℕ) (k' : Packer) (out' lengths' : List ℕ) (b : Bool)
-            → length ts' ≡ 32 → length rs' ≡ 128
-            → set (sents ws ts (records_in rs)) i (sent_as (get_or ws i 0) x) ≡ sents ws ts' (records_in rs')
+        turn : (ts' : List ℕ) (rs' : List Record) (k' : Packer) (out' lengths' : List ℕ) (b : Bool)
+            → length ts' ≡ 32 → length rs' ≡ 32
+            → set (sents ws ts rs) i (sent_as (get_or ws i 0) x) ≡ sents ws ts' rs'
             → Adds f.settings.mtu (wished x.sends (data_of f pool (sent_as (get_or ws i 0) x))) f.settings.mtu 1 k out lengths k'
             out' lengths'
             → b ≡ (x.sends && eqb x.transmissions 20)
@@ -172,45 +171,44 @@ module _ (f : Flush) (n : ℕ) (pool : List ℕ) (k₀ : Packer) (out₀ lengths
             }
 
         -- it is sent
-        pub walking_sent : (rs' : List ℕ) (k' : Packer) (out' lengths' : List ℕ) → x.sends ≡ true
-            → (length rs' ≡ 128) × (records_in rs' ≡ set (records_in rs) i x.updated)
+        pub walking_sent : (k' : Packer) (out' lengths' : List ℕ) → x.sends ≡ true
             → Adds f.settings.mtu (data_of f pool (sent_as (get_or ws i 0) x) ∷ []) f.settings.mtu 1 k out lengths k' out' lengths'
-            → Walking f n pool k₀ out₀ lengths₀ l₀ ws (set ts i x.transmissions) rs' k' out' lengths'
+            → Walking f n pool k₀ out₀ lengths₀ l₀ ws (set ts i x.transmissions) (set rs i x.updated) k' out' lengths'
             (dead || eqb x.transmissions 20) (late || x.late) (fast || x.fast) true (i + 1)
-        walking_sent rs' k' out' lengths' s p a =
-            rw (s, or-true sent) at (turn (set ts i x.transmissions) rs' k' out' lengths' (eqb x.transmissions 20)
-            (length-set ts i x.transmissions ∙ w.wholes) p.0
-            (sents_set ws ts (records_in rs) i (get_or ws i 0) x.transmissions x.updated ∙ rw (set-get_or ws i 0, p.1))
+        walking_sent k' out' lengths' s a =
+            rw (s, or-true sent) at (turn (set ts i x.transmissions) (set rs i x.updated) k' out' lengths' (eqb x.transmissions 20)
+            (length-set ts i x.transmissions ∙ w.wholes) (length-set rs i x.updated ∙ w.whole_records)
+            (sents_set ws ts rs i (get_or ws i 0) x.transmissions x.updated ∙ rw (set-get_or ws i 0))
             (rw s a)
             (rw s))
 
         -- it is not sent, and stays
         pub walking_unchanged : x.sends ≡ false → Walking f n pool k₀ out₀ lengths₀ l₀ ws ts rs k out lengths dead late fast sent (i + 1)
         walking_unchanged s =
-            let same = e ∙ transmission_not_sent f.settings f.timeout f.t (get_or ts i 0) (get_or (records_in rs) i r)
+            let same = e ∙ transmission_not_sent f.settings f.timeout f.t (get_or ts i 0) (get_or rs i r)
             (sym (ap (λ (y : Transmission). y.sends) e) ∙ s) in
             let on-time : x.late ≡ false = ap (λ (y : Transmission). y.late) same in
             let in-turn : x.fast ≡ false = ap (λ (y : Transmission). y.fast) same in
             rw (on-time, in-turn, s, or-false dead, or-false late, or-false fast, or-false sent) at (turn ts rs k out lengths false
             w.wholes w.whole_records
-            (ap (λ (y : Sent). set (sents ws ts (records_in rs)) i y) (ap (sent_as (get_or ws i 0)) same ∙ sym here)
-            ∙ set-get_or (sents ws ts (records_in rs)) i (with_record (outstanding_at 0 0) r))
+            (ap (λ (y : Sent). set (sents ws ts rs) i y) (ap (sent_as (get_or ws i 0)) same ∙ sym here)
+            ∙ set-get_or (sents ws ts rs) i (with_record (outstanding_at 0 0) r))
             (wished_none _ _ _ _ k out lengths x.sends s w.adds.fills)
             (rw s))
 
   -- all are handled
-  pub walking_done : (ts₀ rs₀ : List ℕ) → l₀ ≡ sents ws ts₀ (records_in rs₀) → length ws ≡ 32 → n ≤ i
-      → Walks f (sent_in ws ts₀ (records_in rs₀) n) ws n pool k₀ out₀ lengths₀
+  pub walking_done : (ts₀ : List ℕ) (rs₀ : List Record) → l₀ ≡ sents ws ts₀ rs₀ → length ws ≡ 32 → n ≤ i
+      → Walks f (sent_in ws ts₀ rs₀ n) ws n pool k₀ out₀ lengths₀
       (record { packer = k; dead = dead; late = late; fast = fast; sent = sent }) ts rs out lengths
   walking_done ts₀ rs₀ q whole h =
       let all : i ≡ n = omega (arith, w.list.upto) in
-      let here : take n l₀ ≡ sent_in ws ts₀ (records_in rs₀) n = rw q (sym (sents_take ws ts₀ (records_in rs₀) n)) in
-      let front : take i (take n l₀) ≡ sent_in ws ts₀ (records_in rs₀) n = rw all (take-take n n l₀ (omega arith) ∙ here) in
+      let here : take n l₀ ≡ sent_in ws ts₀ rs₀ n = rw q (sym (sents_take ws ts₀ rs₀ n)) in
+      let front : take i (take n l₀) ≡ sent_in ws ts₀ rs₀ n = rw all (take-take n n l₀ (omega arith) ∙ here) in
       let below : i ≤ 32 = omega (arith, w.list.room) in
       record {
         adds = adds_as w.adds (rw front) (mul-le-mul_right f.settings.mtu below) below;
         sent = sents_front ws ts rs n _ whole w.wholes w.whole_records
-            (subst (λ (m : ℕ). Holds 32 (sents ws ts (records_in rs)) m (left_by f (sent_in ws ts₀ (records_in rs₀) n))) all
+            (subst (λ (m : ℕ). Holds 32 (sents ws ts rs) m (left_by f (sent_in ws ts₀ rs₀ n))) all
             (holds_as (packed_done (rw (view_end l₀ n i h)) w.list) (ap (left_by f) here)));
         dead = rw front at w.dead;
         late = rw front at w.late;

@@ -5,6 +5,7 @@ use mathlib.Core.Bool.{Bool}
 use mathlib.Core.List.{List, [], ◌++◌, map, foldl, append_assoc}
 use Prim.Native.Nat.{ℕ}
 use Rattle.protocol.specs.Protocol.{window_ask, window_tell}
+use Rattle.timing.specs.declared.Record.{Record}
 use Rattle.lists.specs.declared.Sent.{Sent}
 use Rattle.datagram.specs.Datagrams.{Segment}
 use Rattle.session.specs.State.{Ack}
@@ -26,7 +27,8 @@ output_of mtu n m gs k₀ out lengths k out' lengths' count lengths'' e a c =
     ((rw e at a).packs out lengths (record { closed = []; filling = [] }) (packs_none out lengths))
 
 pub writes_all : (f : Flush) (acks : List Ack) (ask tell : Bool) (l : List Sent) (words : List ℕ) (count : ℕ) (pool : List ℕ) (n m : ℕ)
-    (k₀ : Packer) (out lengths : List ℕ) (k : Packer) (out' lengths' : List ℕ) (r : Walked) (transmissions' records' out'' lengths'' : List ℕ)
+    (k₀ : Packer) (out lengths : List ℕ) (k : Packer) (out' lengths' : List ℕ) (r : Walked)
+    (transmissions' : List ℕ) (records' : List Record) (out'' lengths'' : List ℕ)
     (number : ℕ) (lengths''' : List ℕ)
     → k₀ ≡ none
     → Adds f.settings.mtu (map (ack_segment (carried_of f.carried)) acks ++ wished ask (control (carried_of f.carried) window_ask 0 0)

@@ -4,6 +4,7 @@ use Rattle.std.specs.Prelude.{◌≡◌, Bool, List, ◌++◌, map, ℕ}
 use Rattle.std.proofs.Common.{ap, ◌∙◌}
 use Rattle.protocol.specs.Protocol.{window_ask, window_tell}
 use Rattle.protocol.specs.Ranges.{mss}
+use Rattle.timing.specs.declared.Record.{Record}
 use Rattle.lists.specs.declared.Sent.{Sent}
 use Rattle.session.specs.State.{State}
 use Rattle.session.specs.Flushing.{
@@ -47,7 +48,8 @@ module _ (s : State) (t : ℕ) (f : Flush) (e : FlushOf s t f) (pool : List ℕ)
   unfolding flushing
   same_outstanding = rw (e.settings, e.timeout, e.time)
 
-  pub flush_writes : (words : List ℕ) (n : ℕ) (out lengths : List ℕ) (r : Written) (transmissions' records' out' lengths' : List ℕ)
+  pub flush_writes : (words : List ℕ) (n : ℕ) (out lengths : List ℕ) (r : Written)
+      (transmissions' : List ℕ) (records' : List Record) (out' lengths' : List ℕ)
       → Writes f s.receiving.acks (asks s t) s.receiving.tell (outstanding_now s) words n pool out lengths r transmissions'
       records' out' lengths'
       → FlushWrites s t words n pool out lengths r transmissions' records' out' lengths'

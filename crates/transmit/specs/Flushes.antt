@@ -1,6 +1,7 @@
 -- What a flush of a state writes. Definitions.
 -- Assumes nothing.
 use Rattle.std.specs.Prelude.{◌≡◌, Bool, ◌||◌, List, ℕ}
+use Rattle.timing.specs.declared.Record.{Record}
 use Rattle.timing.specs.Probes.{next_clock}
 use Rattle.lists.specs.declared.Sent.{Sent}
 use Rattle.packing.specs.Packers.{carried_of, Output, bytes_of_datagrams}
@@ -34,7 +35,7 @@ sends_at s t =
 -- what a flush of the state s at t writes: the output has its datagrams, the arrays its outstanding segments, n of them, dead is as after
 -- it, late and fast are what it tells of losses, and sent is whether it sends one of them
 pub record FlushWrites (s : State) (t : ℕ) (words : List ℕ) (n : ℕ) (pool out lengths : List ℕ) (r : Written)
-    (transmissions' records' out' lengths' : List ℕ) : Type 0 where
+    (transmissions' : List ℕ) (records' : List Record) (out' lengths' : List ℕ) : Type 0 where
   pub output : Output (bytes_of_datagrams (flushing s t pool).datagrams) out lengths r.count out' lengths'
   pub sent : SentFront words transmissions' records' n (flushing s t pool).state.sending.outstanding
   pub dead : (s.dead || r.dead) ≡ (flushing s t pool).state.dead

@@ -3,6 +3,7 @@
 use Rattle.std.specs.Prelude.{◌≡◌, Bool, List, ◌++◌, map, ℕ, ◌+◌, ◌*◌, ◌≤◌, ◌<◌, length}
 use Rattle.protocol.specs.Protocol.{window_ask, window_tell, send_slots}
 use Rattle.protocol.specs.Ranges.{mss}
+use Rattle.timing.specs.declared.Record.{Record}
 use Rattle.retransmission.specs.declared.Transmission.{Transmission}
 use Rattle.lists.specs.declared.Held.{Held}
 use Rattle.lists.specs.declared.Sent.{Sent}
@@ -26,7 +27,6 @@ use Rattle.session.specs.Flushing.{
 use Rattle.packing.specs.declared.Packer.{Packer}
 use Rattle.packing.specs.Packers.{carried_of, Output, bytes_of_datagrams, Adds}
 use Rattle.words.specs.Words.{unpack}
-use Rattle.record_words.specs.RecordWords.{records_in}
 use Rattle.numbering.specs.Sents.{sent_in, SentFront}
 use Rattle.transmit.specs.declared.Flush.{Flush}
 use Rattle.transmit.specs.declared.Walked.{Walked}
@@ -78,19 +78,19 @@ sent_as word x = record { held = unpack word; transmissions = x.transmissions; �
 
 -- what the checks of a flush have established of n outstanding segments: there are at most 32, each in its slot, and the send pool has 128
 -- slots
-pub record Sendable (f : Flush) (words transmissions records : List ℕ) (n : ℕ) (pool : List ℕ) : Type 0 where
+pub record Sendable (f : Flush) (words transmissions : List ℕ) (records : List Record) (n : ℕ) (pool : List ℕ) : Type 0 where
   pub mtu : 24 ≤ f.settings.mtu
   pub whole : length words ≡ 32
   pub wholes : length transmissions ≡ 32
-  pub whole_records : length records ≡ 128
+  pub whole_records : length records ≡ 32
   pub count : n ≤ 32
-  pub inside : AllInSlots (mss f.settings) (sent_in words transmissions (records_in records) n)
+  pub inside : AllInSlots (mss f.settings) (sent_in words transmissions records n)
   pub slots : 128 * mss f.settings ≤ length pool
 
 -- all n segments of l are handled: those sent are put as data, each is as its rule leaves it, and it is told whether one was sent, and
 -- whether one sent was transmitted 20 times, due or skipped
 pub record Walks (f : Flush) (l : List Sent) (words : List ℕ) (n : ℕ) (pool : List ℕ) (k : Packer) (out lengths : List ℕ) (r : Walked)
-    (transmissions' records' out' lengths' : List ℕ) : Type 0 where
+    (transmissions' : List ℕ) (records' : List Record) (out' lengths' : List ℕ) : Type 0 where
   pub adds : Adds f.settings.mtu (map (data_of f pool) (sent_by f l)) (32 * f.settings.mtu) 32 k out lengths r.packer out' lengths'
   pub sent : SentFront words transmissions' records' n (left_by f l)
   pub dead : r.dead ≡ some_dead (sent_by f l)
@@ -110,7 +110,7 @@ segments_of f acks ask tell pool sent =
 
 -- what the checks of a flush have established besides: at most 256 acks, within the ack list; room for 258 headers and 32 whole datagrams,
 -- and for 290 lengths
-pub record Writable (f : Flush) (noted : ℕ) (acks words transmissions records : List ℕ) (n : ℕ)
+pub record Writable (f : Flush) (noted : ℕ) (acks words transmissions : List ℕ) (records : List Record) (n : ℕ)
     (pool out lengths : List ℕ) : Type 0 where
   pub sendable : Sendable f words transmissions records n pool
   pub few : noted ≤ 256
@@ -121,7 +121,7 @@ pub record Writable (f : Flush) (noted : ℕ) (acks words transmissions records 
 -- what a flush writes: the output has its datagrams, each outstanding segment of l is as its rule leaves it, and it is told whether one
 -- was sent, and whether one sent was transmitted 20 times, due or skipped
 pub record Writes (f : Flush) (acks : List Ack) (ask tell : Bool) (l : List Sent) (words : List ℕ) (n : ℕ) (pool out lengths : List ℕ)
-    (r : Written) (transmissions' records' out' lengths' : List ℕ) : Type 0 where
+    (r : Written) (transmissions' : List ℕ) (records' : List Record) (out' lengths' : List ℕ) : Type 0 where
   pub output : Output (bytes_of_datagrams (packed f.settings.mtu (segments_of f acks ask tell pool (sent_by f l)))) out lengths r.count
       out' lengths'
   pub sent : SentFront words transmissions' records' n (left_by f l)

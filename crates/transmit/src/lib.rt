@@ -6,12 +6,12 @@ mod controls;
 mod transmitting;
 
 ghost use Rattle.control.specs.Views.{pairs};
-ghost use Rattle.record_words.specs.RecordWords.{records_in};
 ghost use Rattle.numbering.specs.Sents.{sent_in};
 ghost use Rattle.transmit.specs.Writing.{Writable, Writes};
 
 use packing::{Carried, Packer};
 use protocol::Settings;
+use timing::Record;
 
 // What a flush goes by: the settings, what all its segments carry, the link's timeout, and the time.
 #[derive(Clone, Copy)]
@@ -54,7 +54,7 @@ pub fn write(
     tell: bool,
     words: &[u32; 32],
     transmissions: &mut [u8; 32],
-    records: &mut [u32; 128],
+    records: &mut [Record; 32],
     n: usize,
     pool: &[u8],
     out: &mut [u8],
@@ -62,7 +62,7 @@ pub fn write(
 ) -> Written
     requires { Writable flush noted acks.now words.now transmissions.old records.old n pool.now out.old lengths.old }
     ensures { Writes flush (pairs noted acks.now) ask tell
-        (sent_in words.now transmissions.old (records_in records.old) n) words.now n
+        (sent_in words.now transmissions.old records.old n) words.now n
         pool.now out.old lengths.old
         result transmissions.new records.new out.new lengths.new }
 {

@@ -3,7 +3,6 @@ ghost use Rattle.std.specs.Prelude.{[], ◌∷◌, ◌*◌, ◌≤◌, length};
 ghost use Rattle.protocol.specs.Ranges.{mss};
 ghost use Rattle.packing.specs.Packers.{Room, Adds};
 ghost use Rattle.words.specs.Words.{unpack};
-ghost use Rattle.record_words.specs.RecordWords.{records_in};
 ghost use Rattle.numbering.specs.Sents.{sent_in};
 ghost use Rattle.transmit.specs.Writing.{data_of, InSlot, sent_as, Sendable, Walks};
 
@@ -12,6 +11,7 @@ use lists::{Held, Sent};
 use packing::Packer;
 use protocol::Protocol;
 use retransmission::{Transmission, outstanding};
+use timing::Record;
 
 // The data of the segment of this word, sent as its rule says.
 fn put_sent(
@@ -53,7 +53,7 @@ pub(crate) fn put_outstanding(
     flush: Flush,
     words: &[u32; 32],
     transmissions: &mut [u8; 32],
-    records: &mut [u32; 128],
+    records: &mut [Record; 32],
     n: usize,
     pool: &[u8],
     out: &mut [u8],
@@ -61,7 +61,7 @@ pub(crate) fn put_outstanding(
 ) -> Walked
     requires { Room flush.settings.mtu (32 * flush.settings.mtu) 32 packer out.old lengths.old
         × Sendable flush words.now transmissions.old records.old n pool.now }
-    ensures { Walks flush (sent_in words.now transmissions.old (records_in records.old) n)
+    ensures { Walks flush (sent_in words.now transmissions.old records.old n)
         words.now n pool.now packer out.old lengths.old
         result transmissions.new records.new out.new lengths.new }
 {
@@ -72,7 +72,7 @@ pub(crate) fn put_outstanding(
     let mut sent = false;
     let mut i: usize = 0;
     while i < n {
-        let old = record_words::at(records, i);
+        let old = records[i];
         let x = outstanding::transmission(
             flush.settings,
             flush.timeout,
@@ -83,7 +83,7 @@ pub(crate) fn put_outstanding(
         if x.sends {
             let updated = x.updated;
             transmissions[i] = x.transmissions;
-            record_words::put(records, i, updated);
+            records[i] = updated;
             k = put_sent(k, flush, words[i], x, pool, out, lengths);
             dead = dead | (x.transmissions == Protocol::DEAD_AFTER);
             late = late | x.late;

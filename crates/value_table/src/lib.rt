@@ -4,7 +4,6 @@
 
 ghost use Rattle.std.specs.Prelude.{◌≡◌, ◌≤◌, ◌<◌, ◌%◌, min, take, drop, get_or, set};
 ghost use Rattle.records.specs.Tables.{blank, slots_in, gathered, padded, scattered};
-ghost use Rattle.record_words.specs.RecordWords.{records_in};
 
 use timing::Record;
 
@@ -59,17 +58,17 @@ fn replace(table: [Record; 128], most: usize, slot: usize, updated: Record) -> [
 }
 
 // The records at the slots of the first n words, in their order, and blank ones up to 32.
-pub fn gather(table: [Record; 128], lent: usize, words: [u32; 32], n: usize) -> [u32; 128]
-    ensures { records_in result ≡ padded (gathered (take 128 (take lent table)) (slots_in words n)) }
+pub fn gather(table: [Record; 128], lent: usize, words: [u32; 32], n: usize) -> [Record; 32]
+    ensures { result ≡ padded (gathered (take 128 (take lent table)) (slots_in words n)) }
 {
     let count = within(n);
     let most = lent_count(lent);
-    let mut records = record_words::none();
+    let mut records = records::none();
     let mut i: usize = 0;
     while i < count {
         let slot = slot_of(words[i]);
         let found = read(table, most, slot);
-        record_words::put(&mut records, i, found);
+        records[i] = found;
         i += 1;
     }
     records
@@ -81,9 +80,9 @@ pub fn scatter(
     lent: usize,
     words: [u32; 32],
     n: usize,
-    records: [u32; 128],
+    records: [Record; 32],
 ) -> [Record; 128]
-    ensures { (take lent result ≡ scattered (take lent table) (slots_in words n) (records_in records))
+    ensures { (take lent result ≡ scattered (take lent table) (slots_in words n) records)
         × (drop lent result ≡ drop lent table) }
 {
     let count = within(n);
@@ -92,7 +91,7 @@ pub fn scatter(
     let mut i: usize = 0;
     while i < count {
         let slot = slot_of(words[i]);
-        let updated = record_words::at(&records, i);
+        let updated = records[i];
         let changed = replace(next, most, slot, updated);
         next = changed;
         i += 1;

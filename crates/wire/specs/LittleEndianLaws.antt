@@ -1,8 +1,9 @@
--- Laws of `LittleEndian`: the two round trips, and how reading goes by parts.
+-- Laws of `LittleEndian`: the two round trips, how reading goes by parts, and the bytes that std gives.
 -- Assumes nothing.
 use Rattle.std.specs.Prelude.{◌≡◌, refl, List, ◌∷◌, ℕ, zero, suc, ◌+◌, ◌*◌, ◌/◌, ◌%◌, ◌^◌, ◌≤◌, ◌<◌, length, get_or, take, drop}
 use Rattle.std.proofs.Common.{ap, mul_assoc, add-zero, zero-add, suc-add, add-suc, one-mul, arith, drop-cons, get_or-drop}
 use Rattle.std.proofs.Math.Nat.{pow-succ', pow-zero}
+use Rattle.std.specs.Int.{w16, w32, to_le_bytes}
 use Rattle.wire.specs.LittleEndian.{bytes_of, number_at, AllBytes}
 
 pub length_bytes_of : (k n : ℕ) → length (bytes_of k n) ≡ k
@@ -44,3 +45,15 @@ bytes_of_number (suc k) s i b h =
     let high : (get_or s i 0 + 256 * number_at k s (suc i)) / 256 ≡ number_at k s (suc i) = omega (arith, b i) in
     let inside : i < length s = omega arith in
     rw (low, high, drop-cons s i 0, bytes_of_number k s (suc i) b (omega arith))
+
+-- std's bytes of a number
+pub le_16 : (n : ℕ) → to_le_bytes w16 n ≡ bytes_of 2 n
+unfolding bytes_of
+le_16 n = refl
+
+pub le_32 : (n : ℕ) → to_le_bytes w32 n ≡ bytes_of 4 n
+unfolding bytes_of
+le_32 n =
+    let third : n / 65536 ≡ n / 256 / 256 = omega arith in
+    let fourth : n / 16777216 ≡ n / 256 / 256 / 256 = omega arith in
+    rw (third, fourth)

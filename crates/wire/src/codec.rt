@@ -3,7 +3,8 @@ ghost use Rattle.std.specs.Prelude.{◌≡◌, ◌+◌, ◌≤◌, length};
 ghost use Rattle.std.proofs.lemmas.List.Edits.{sets};
 ghost use Rattle.wire.specs.Headers.{front, back, encode, decode, Wrote, header_at};
 
-use crate::{Header, number};
+use crate::Header;
+use crate::number::Number;
 use protocol::Protocol;
 
 // The header's first 8 bytes.
@@ -11,10 +12,10 @@ fn put_front(out: &mut [u8], at: usize, h: Header)
     requires { at + 8 ≤ length out.old }
     ensures { out.new ≡ sets out.old at (front h) }
 {
-    number::put_u32(out, at, h.conv);
-    number::put_u8(out, at + 4, h.cmd);
-    number::put_u8(out, at + 5, h.frg);
-    number::put_u16(out, at + 6, h.wnd);
+    h.conv.put(out, at);
+    h.cmd.put(out, at + 4);
+    h.frg.put(out, at + 5);
+    h.wnd.put(out, at + 6);
 }
 
 // The header's last 16 bytes.
@@ -22,10 +23,10 @@ fn put_back(out: &mut [u8], at: usize, h: Header)
     requires { at + 16 ≤ length out.old }
     ensures { out.new ≡ sets out.old at (back h) }
 {
-    number::put_u32(out, at, h.ts);
-    number::put_u32(out, at + 4, h.sn);
-    number::put_u32(out, at + 8, h.una);
-    number::put_u32(out, at + 12, h.len);
+    h.ts.put(out, at);
+    h.sn.put(out, at + 4);
+    h.una.put(out, at + 8);
+    h.len.put(out, at + 12);
 }
 
 // The header at `at`, where there is room for it.
@@ -41,10 +42,7 @@ fn put_header(out: &mut [u8], at: usize, h: Header)
 pub fn write_header(out: &mut [u8], at: usize, h: Header) -> bool
     ensures { Wrote out.old at h result out.new }
 {
-    if out.len() < Protocol::HEADER {
-        return false;
-    }
-    if out.len() - Protocol::HEADER < at {
+    if out.len() < Protocol::HEADER || out.len() - Protocol::HEADER < at {
         return false;
     }
     put_header(out, at, h);
@@ -57,14 +55,14 @@ fn read_header(s: &[u8], at: usize) -> Header
     ensures { result ≡ decode s.now at }
 {
     Header {
-        conv: number::read_u32(s, at),
-        cmd: number::read_u8(s, at + 4),
-        frg: number::read_u8(s, at + 5),
-        wnd: number::read_u16(s, at + 6),
-        ts: number::read_u32(s, at + 8),
-        sn: number::read_u32(s, at + 12),
-        una: number::read_u32(s, at + 16),
-        len: number::read_u32(s, at + 20),
+        conv: u32::read(s, at),
+        cmd: u8::read(s, at + 4),
+        frg: u8::read(s, at + 5),
+        wnd: u16::read(s, at + 6),
+        ts: u32::read(s, at + 8),
+        sn: u32::read(s, at + 12),
+        una: u32::read(s, at + 16),
+        len: u32::read(s, at + 20),
     }
 }
 
@@ -72,10 +70,8 @@ fn read_header(s: &[u8], at: usize) -> Header
 pub fn find_header(s: &[u8], at: usize) -> Option<Header>
     ensures { result ≡ header_at s.now at }
 {
-    if s.len() < Protocol::HEADER {
-        return None;
-    }
-    if s.len() - Protocol::HEADER < at {
+    let last = s.len().checked_sub(Protocol::HEADER)?;
+    if last < at {
         return None;
     }
     Some(read_header(s, at))

@@ -1,62 +1,63 @@
 // Little-endian numbers in a slice.
-ghost use Rattle.std.specs.Prelude.{◌≡◌, ◌+◌, ◌≤◌, length};
+ghost use Rattle.std.specs.Prelude.{◌≡◌, ℕ, ◌+◌, ◌≤◌, length};
 ghost use Rattle.std.proofs.lemmas.List.Edits.{sets};
 ghost use Rattle.wire.specs.LittleEndian.{bytes_of, number_at};
 
-pub fn put_u8(out: &mut [u8], at: usize, v: u8)
-    requires { at + 1 ≤ length out.old }
-    ensures { out.new ≡ sets out.old at (bytes_of 1 v) }
-{
-    out[at] = v;
+// An unsigned number that stands in a slice as so many bytes, the lowest first.
+pub trait Number: Copy {
+    ghost width: { ℕ };
+
+    ghost value: { Self → ℕ };
+
+    // Stores the number's bytes at `at`; no other byte changes.
+    fn put(self, out: &mut [u8], at: usize)
+        requires { at + width ≤ length out.old }
+        ensures { out.new ≡ sets out.old at (bytes_of width (value self)) };
+
+    // The number that the bytes at `at` are.
+    fn read(s: &[u8], at: usize) -> Self
+        requires { at + width ≤ length s.now }
+        ensures { value result ≡ number_at width s.now at };
 }
 
-pub fn put_u16(out: &mut [u8], at: usize, v: u16)
-    requires { at + 2 ≤ length out.old }
-    ensures { out.new ≡ sets out.old at (bytes_of 2 v) }
-{
-    out[at] = (v % 256) as u8;
-    out[at + 1] = (v / 256 % 256) as u8;
+impl Number for u8 {
+    ghost width = { 1 };
+
+    ghost value = { λ x. x };
+
+    fn put(self, out: &mut [u8], at: usize) {
+        out[at] = self;
+    }
+
+    fn read(s: &[u8], at: usize) -> u8 {
+        s[at]
+    }
 }
 
-pub fn put_u32(out: &mut [u8], at: usize, v: u32)
-    requires { at + 4 ≤ length out.old }
-    ensures { out.new ≡ sets out.old at (bytes_of 4 v) }
-{
-    out[at] = (v % 256) as u8;
-    out[at + 1] = (v / 256 % 256) as u8;
-    out[at + 2] = (v / 256 / 256 % 256) as u8;
-    out[at + 3] = (v / 256 / 256 / 256 % 256) as u8;
+impl Number for u16 {
+    ghost width = { 2 };
+
+    ghost value = { λ x. x };
+
+    fn put(self, out: &mut [u8], at: usize) {
+        out[at..at + 2].copy_from_slice(&self.to_le_bytes());
+    }
+
+    fn read(s: &[u8], at: usize) -> u16 {
+        u16::from_le_bytes([s[at], s[at + 1]])
+    }
 }
 
-fn wide16(x: u8) -> u16
-    ensures { result ≡ x }
-{
-    x as u16
-}
+impl Number for u32 {
+    ghost width = { 4 };
 
-fn wide32(x: u16) -> u32
-    ensures { result ≡ x }
-{
-    x as u32
-}
+    ghost value = { λ x. x };
 
-pub fn read_u8(s: &[u8], at: usize) -> u8
-    requires { at + 1 ≤ length s.now }
-    ensures { result ≡ number_at 1 s.now at }
-{
-    s[at]
-}
+    fn put(self, out: &mut [u8], at: usize) {
+        out[at..at + 4].copy_from_slice(&self.to_le_bytes());
+    }
 
-pub fn read_u16(s: &[u8], at: usize) -> u16
-    requires { at + 2 ≤ length s.now }
-    ensures { result ≡ number_at 2 s.now at }
-{
-    wide16(read_u8(s, at)) + 256 * wide16(read_u8(s, at + 1))
-}
-
-pub fn read_u32(s: &[u8], at: usize) -> u32
-    requires { at + 4 ≤ length s.now }
-    ensures { result ≡ number_at 4 s.now at }
-{
-    wide32(read_u16(s, at)) + 65536 * wide32(read_u16(s, at + 2))
+    fn read(s: &[u8], at: usize) -> u32 {
+        u32::from_le_bytes([s[at], s[at + 1], s[at + 2], s[at + 3]])
+    }
 }

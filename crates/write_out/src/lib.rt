@@ -34,7 +34,7 @@ pub fn write_out(
     let arrival = link.arrival;
     let clock = link.clock;
     let n = results::outstanding_count(flight);
-    let mut records = record_words::none();
+    let mut records = records::none();
     gathering::gather(table, &link.outstanding, n, &mut records);
     let lent = records::table_len(table);
     let flushed = flush_core::flush(

@@ -10,12 +10,13 @@ use Rattle.promises.specs.Promises.{OpenPromise, SendPromise, InputPromise, Flus
 use Rattle.wrong_links.specs.Standing.{Lends, At}
 use Rattle.wrong_links.specs.Session.{settings, send_pool, receive_pool, fresh, first, both_sent, rested, datagrams, both_heard}
 use Rattle.wrong_links.specs.Tried.{opens, send_first, flush_both, update_first, input_first, read_first, size_first, check_later}
+use Rattle.answers.specs.Answers.{Answer, Count}
 
 -- an accepted call is not refused, whatever the refusal
-not_refused : {r : Refusal} → Err r ≡ Ok tt → ⊥
+not_refused : {r : Refusal} → ◌≡◌ {A = Answer} (Err r) (Ok tt) → ⊥
 not_refused e = let z : ◌≡◌ {A = ℕ} 0 1 = cc in omega arith
 
-not_refused_count : {r : Refusal} {n : ℕ} → Err r ≡ Ok n → ⊥
+not_refused_count : {r : Refusal} {n : ℕ} → ◌≡◌ {A = Count} (Err r) (Ok n) → ⊥
 not_refused_count e = let z : ◌≡◌ {A = ℕ} 0 1 = cc in omega arith
 
 -- ---- a link that refuses everything

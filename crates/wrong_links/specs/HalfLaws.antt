@@ -56,6 +56,7 @@ use Rattle.promises.specs.Outcomes.{checked, takes_in_with}
 use Rattle.promises.specs.Answers.{Accepts}
 use Rattle.promises.specs.Promises.{TookIn, InputPromise, InputLeaves}
 use Rattle.wrong_links.specs.Halves.{outstanding_numbers, held_count, is_kept, kept_of}
+use Rattle.answers.specs.Answers.{Answer}
 
 -- ---- the sending half
 
@@ -238,7 +239,7 @@ all_held m (g ∷ gs) x = omega (arith, all_held m gs (heard_by_receiving m x g)
 
 -- ---- from the promise
 
-not_accepted : {A : Type 0} {r : Refusal} → (Ok tt) ≡ Err r → A
+not_accepted : {A : Type 0} {r : Refusal} → ◌≡◌ {A = Answer} (Ok tt) (Err r) → A
 not_accepted e = absurd (let z : ◌≡◌ {A = ℕ} 0 1 = cc in omega arith)
 
 module _ (l : Link) (p : Parts) (l' : Link) (p' : Parts) (d : List ℕ) (gs : List Segment)

@@ -2,7 +2,7 @@
 use mathlib.Core.Path.{sym, ◌∙◌}
 use borrow.Author.Rules.{rules}
 use Rattle.acknowledge.proofs.Hearing.{heard_some, heard_none, all_stay}
-use Rattle.acknowledge.proofs.Owned.{numbers_owned, sent_owned}
+use Rattle.acknowledge.proofs.Owned.{sent_owned}
 use Rattle.acknowledge.proofs.Skips.{skips_are, no_skips}
 use Rattle.acknowledge.proofs.Walks.{walking_start, walking_less, walking_more, walking_end}
 use Rattle.acknowledge.proofs.hear.Goals as goal
@@ -13,7 +13,7 @@ loop-segment-init c = (
   rw c.new-furthest.ensures
       (walking_start _ _ _ _ (record {
         order = c.requires.0;
-        fit = sent_owned _ _ (numbers_owned c.args.records.now c.words_fit.ensures);
+        fit = sent_owned _ _ c.numbers_fit.ensures;
         next32 = search rules;
       }) _
       c.requires.2.1),

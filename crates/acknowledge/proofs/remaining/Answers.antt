@@ -9,8 +9,6 @@ use Rattle.lists.specs.declared.Sent.{Sent}
 use Rattle.lists.proofs.Loops.{packed_start, packed_done}
 use Rattle.lists.proofs.Writes.{select_end}
 use Rattle.records.specs.Tables.{blank}
-use Rattle.record_words.specs.RecordWords.{records_in}
-use Rattle.record_words.specs.RecordLaws.{records_length}
 use Rattle.words.specs.Words.{outstanding_in}
 use Rattle.acknowledge.specs.Flights.{JoinedIn}
 use Rattle.acknowledge.specs.Hearing.{stays_by}
@@ -20,46 +18,43 @@ use Rattle.acknowledge.proofs.remaining.Goals as goal
 
 pub loop-i-init : goal.loop-i-init
 loop-i-init c =
-    let many = records_length 32 c.args.records.now c.requires.2 in
+    let many = c.requires.2 in
     let long = beside_length _ _ _ _ c.requires.0 c.requires.1 many in
     (c.requires.0, c.requires.1, c.requires.2, packed_start _ _ _ (search rules) (search rules) (search rules) long)
 
 pub loop-i-preserved-then-stays : goal.loop-i-preserved-then-stays
 loop-i-preserved-then-stays c =
-    let l = c.loop-i in
-    let read = c.at-record.ensures in (
+    let l = c.loop-i in (
       simp length-set l.invariant.0,
       simp length-set l.invariant.1,
-      c.put.ensures.0,
-      rw (c.put.ensures.1, read)
-          (removal_stays _ _ _ _ _ c.loop-i-test.true l.invariant.0 l.invariant.1 l.invariant.3
-          (rw read at (sym c.stays.ensures ∙ c.if-stays.true))),
+      simp length-set l.invariant.2,
+      (removal_stays _ _ _ _ _ c.loop-i-test.true l.invariant.0 l.invariant.1 l.invariant.3
+          (sym c.stays.ensures ∙ c.if-stays.true)),
     )
 
 pub loop-i-preserved : goal.loop-i-preserved
 loop-i-preserved c =
-    let l = c.loop-i in
-    let read = c.at-record.ensures in (
+    let l = c.loop-i in (
       l.invariant.0,
       l.invariant.1,
       l.invariant.2,
       removal_drops _ _ _ _ _ c.loop-i-test.true l.invariant.0 l.invariant.1 l.invariant.3
-          (rw read at (sym c.stays.ensures ∙ c.if-stays.false)),
+          (sym c.stays.ensures ∙ c.if-stays.false),
     )
 
 pub returns : goal.returns
 returns c =
     let a = c.args in
     let l = c.loop-i.invariant in
-    let records = records_in c.loop-i.records in
+    let records = c.loop-i.records in
     let left : JoinedIn c.loop-i.words c.loop-i.transmissions c.loop-i.j records
     (filter (stays_by a.next a.h)
-    (joined (outstanding_in a.words.now a.transmissions.now a.n) (records_in a.records.now)))
-    = rw (← (beside_front a.words.now a.transmissions.now (records_in a.records.now) a.n))
+    (joined (outstanding_in a.words.now a.transmissions.now a.n) a.records.now))
+    = rw (← (beside_front a.words.now a.transmissions.now a.records.now a.n))
     (in_front_lem _ _ _ _ _ l.0 l.1 (packed_done (select_end _ _ _ _ c.loop-i-test.false) l.3)) in
     let first = first_is c.loop-i.words c.loop-i.transmissions records c.loop-i.j a.next blank
-    l.0 l.1 (records_length 32 _ l.2) in (
+    l.0 l.1 l.2 in (
       left,
-      c.first_number.ensures ∙ rw c.at-first.ensures first ∙ ap (λ (x : List Sent). first_number_or x a.next) left.list,
+      c.first_number.ensures ∙ first ∙ ap (λ (x : List Sent). first_number_or x a.next) left.list,
       l.2,
     )

@@ -4,7 +4,6 @@ use mathlib.Core.Path.{◌≡◌}
 use lib.ListN.{length, take, drop}
 use Rattle.lists.specs.Acknowledging.{filter}
 use Rattle.lists.proofs.Loops.{Packed}
-use Rattle.record_words.specs.RecordWords.{records_in}
 use Rattle.acknowledge.specs.Hearing.{stays_by}
 use Rattle.acknowledge.proofs.Removal.{beside}
 use Rattle.acknowledge.proofs.remaining.Given as goal
@@ -13,11 +12,11 @@ abbrev pub invariant-loop-i : goal.invariant-loop-i
 invariant-loop-i l =
     (length l.words ≡ 32)
     × (length l.transmissions ≡ 32)
-    × (length l.records ≡ 128)
-    × Packed 32 l.n (beside l.initial.words l.initial.transmissions (records_in l.initial.records))
-    (beside l.words l.transmissions (records_in l.records))
-    (filter (stays_by l.next l.h) (drop l.i (take l.n (beside l.initial.words l.initial.transmissions (records_in l.initial.records)))))
-    (filter (stays_by l.next l.h) (take l.n (beside l.initial.words l.initial.transmissions (records_in l.initial.records)))) l.i l.j
+    × (length l.records ≡ 32)
+    × Packed 32 l.n (beside l.initial.words l.initial.transmissions l.initial.records)
+    (beside l.words l.transmissions l.records)
+    (filter (stays_by l.next l.h) (drop l.i (take l.n (beside l.initial.words l.initial.transmissions l.initial.records))))
+    (filter (stays_by l.next l.h) (take l.n (beside l.initial.words l.initial.transmissions l.initial.records))) l.i l.j
 
 abbrev pub decreases-loop-i : goal.decreases-loop-i
 decreases-loop-i l = l.n - l.i

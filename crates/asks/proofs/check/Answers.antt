@@ -1,6 +1,5 @@
 -- The block is checked where it stands, the records are gathered, and the time that the core names is the one that is promised.
 use Rattle.std.proofs.Common.{◌∙◌, rules}
-use Rattle.record_words.specs.RecordWords.{records_in}
 use Rattle.codes.specs.Codes.{time_code}
 use Rattle.codes.proofs.Told.{told, returned}
 use Rattle.promises.specs.Parts.{parts_of}
@@ -19,7 +18,7 @@ pub returns : goal.returns
 returns c =
     let h = c.args.link.now in
     let p = parts_of c.args.send_pool.now c.args.receive_pool.now c.args.table.now c.args.acks.now in
-    let records = records_in c.gather.new.records in
+    let records = c.gather.new.records in
     let m = c.table_len-lent.result in
     let g = gathers h p c.outstanding_count-n.result records m c.outstanding_count-n.ensures c.gather.ensures.1 c.table_len-lent.ensures in
     let a = c.check-time.result in

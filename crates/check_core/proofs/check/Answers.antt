@@ -3,8 +3,6 @@ use mathlib.Core.Path.{◌≡◌, ap, ◌∙◌}
 use mathlib.Core.List.{List}
 use Prim.Native.Nat.{ℕ}
 use lib.ListN.{take}
-use Rattle.record_words.specs.RecordWords.{records_in}
-use Rattle.record_words.specs.RecordLaws.{records_length}
 use Rattle.checking.specs.Verdicts.{verdict_of}
 use Rattle.checking.specs.VerdictLaws.{admitted}
 use Rattle.schedule.specs.Schedules.{dues_of, named}
@@ -20,7 +18,7 @@ judged : (c : goal.After-check) (acks : List ℕ)
     c.judged-verdict.result ≡ verdict_of sizes.enough-long.result (block_valid (let a = start.args in
     link_of a.settings a.flight a.arrival a.clock
     (arrays a.queued.now a.outstanding.now a.transmissions.now a.ready.now a.waiting.now a.waiting_numbers.now))
-    (records_in start.args.records.now) acks)
+    start.args.records.now acks)
 judged c acks =
     let fits = c in
     let sizes = fits in
@@ -29,9 +27,9 @@ judged c acks =
     (admitted (let a = start.args in
     link_of a.settings a.flight a.arrival a.clock
     (arrays a.queued.now a.outstanding.now a.transmissions.now a.ready.now a.waiting.now a.waiting_numbers.now))
-    (records_in start.args.records.now) marked.0 marked.1.0 sizes.enough-long.result
+    start.args.records.now marked.0 marked.1.0 sizes.enough-long.result
     start.args.sound fits.flight_fits-flown.result c.judged-verdict.result c.judged-verdict.ensures marked.1.1
-    (record { whole = records_length 32 _ start.requires.1; fits = fits.flight_fits-flown.ensures })).verdict acks
+    (record { whole = start.requires.1; fits = fits.flight_fits-flown.ensures })).verdict acks
 
 pub returns-in-Ok : goal.returns-in-Ok
 returns-in-Ok c =
@@ -44,11 +42,11 @@ returns-in-Ok c =
     names (let a = start.args in
     link_of a.settings a.flight a.arrival a.clock
     (arrays a.queued.now a.outstanding.now a.transmissions.now a.ready.now a.waiting.now a.waiting_numbers.now)) start.requires.0
-    (records_in a.records.now) a.acks.now _ _ _ sizes.enough-long.ensures (judged checks _)
+    a.records.now a.acks.now _ _ _ sizes.enough-long.ensures (judged checks _)
     a.t branch.in-Ok.is _
     (c.check.ensures
     ∙ ap (λ (s : Schedule). named s a.t a.settings.interval
-    (dues_of (take a.flight.outstanding (records_in a.records.now)))) schedules.schedule_of-schedule.ensures)
+    (dues_of (take a.flight.outstanding a.records.now))) schedules.schedule_of-schedule.ensures)
 
 pub returns-in-Err : goal.returns-in-Err
 returns-in-Err c =
@@ -59,20 +57,20 @@ returns-in-Err c =
     refuses (let a = start.args in
     link_of a.settings a.flight a.arrival a.clock
     (arrays a.queued.now a.outstanding.now a.transmissions.now a.ready.now a.waiting.now a.waiting_numbers.now)) start.requires.0
-    (records_in a.records.now) a.acks.now _ _ _ sizes.enough-long.ensures ((let judged' : (acks : List ℕ)
+    a.records.now a.acks.now _ _ _ sizes.enough-long.ensures ((let judged' : (acks : List ℕ)
     → let sizes = checks in
     let start = sizes in
     checks.judged-verdict.result ≡ verdict_of sizes.enough-long.result (block_valid (let a = start.args in
     link_of a.settings a.flight a.arrival a.clock
     (arrays a.queued.now a.outstanding.now a.transmissions.now a.ready.now a.waiting.now a.waiting_numbers.now))
-    (records_in start.args.records.now) acks) = λ acks. let fits = checks in
+    start.args.records.now acks) = λ acks. let fits = checks in
     let sizes = fits in
     let start = sizes in
     let marked = start.requires.2 in
     (admitted (let a = start.args in
     link_of a.settings a.flight a.arrival a.clock
     (arrays a.queued.now a.outstanding.now a.transmissions.now a.ready.now a.waiting.now a.waiting_numbers.now))
-    (records_in start.args.records.now) marked.0 marked.1.0 sizes.enough-long.result
+    start.args.records.now marked.0 marked.1.0 sizes.enough-long.result
     start.args.sound fits.flight_fits-flown.result checks.judged-verdict.result checks.judged-verdict.ensures marked.1.1
-    (record { whole = records_length 32 _ start.requires.1; fits = fits.flight_fits-flown.ensures })).verdict acks in judged') _)
+    (record { whole = start.requires.1; fits = fits.flight_fits-flown.ensures })).verdict acks in judged') _)
     a.t _ c.in-Err.is

@@ -2,8 +2,6 @@
 use mathlib.Core.Path.{◌≡◌}
 use mathlib.Core.List.{List}
 use Prim.Native.Nat.{ℕ}
-use Rattle.record_words.specs.RecordWords.{records_in}
-use Rattle.record_words.specs.RecordLaws.{records_length}
 use Rattle.control.specs.Views.{arrays, link_of, block_valid}
 use Rattle.checking.specs.Verdicts.{verdict_of}
 use Rattle.checking.specs.VerdictLaws.{admitted}
@@ -18,7 +16,7 @@ judged : (c : goal.After-run-arg-in-Ok-5-1) (acks : List ℕ)
     (block_valid (let a = start.args in
     link_of a.settings a.flight a.arrival a.clock
     (arrays a.queued.now a.outstanding.now a.transmissions.now a.ready.now a.waiting.now a.waiting_numbers.now))
-    (records_in start.args.records.now) acks)
+    start.args.records.now acks)
 judged c acks =
     let fits = c in
     let sizes = fits in
@@ -27,9 +25,9 @@ judged c acks =
     (admitted (let a = start.args in
     link_of a.settings a.flight a.arrival a.clock
     (arrays a.queued.now a.outstanding.now a.transmissions.now a.ready.now a.waiting.now a.waiting_numbers.now))
-    (records_in start.args.records.now) marked.0 marked.1.0 sizes.enough_to_flush-long.result
+    start.args.records.now marked.0 marked.1.0 sizes.enough_to_flush-long.result
     start.args.sound fits.flight_fits-flown.result c.judged-verdict.result c.judged-verdict.ensures marked.1.1
-    (record { whole = records_length 32 _ start.requires.1; fits = fits.flight_fits-flown.ensures })).verdict acks
+    (record { whole = start.requires.1; fits = fits.flight_fits-flown.ensures })).verdict acks
 
 pub run-requires : goal.run-requires
 run-requires c =
@@ -57,16 +55,16 @@ returns-in-Ok c =
           (block_valid (let a = start.args in
           link_of a.settings a.flight a.arrival a.clock
           (arrays a.queued.now a.outstanding.now a.transmissions.now a.ready.now a.waiting.now a.waiting_numbers.now))
-          (records_in start.args.records.now) acks) = λ acks. let fits = checks in
+          start.args.records.now acks) = λ acks. let fits = checks in
           let sizes = fits in
           let start = sizes in
           let marked = start.requires.2 in
           (admitted (let a = start.args in
           link_of a.settings a.flight a.arrival a.clock
           (arrays a.queued.now a.outstanding.now a.transmissions.now a.ready.now a.waiting.now a.waiting_numbers.now))
-          (records_in start.args.records.now) marked.0 marked.1.0 sizes.enough_to_flush-long.result
+          start.args.records.now marked.0 marked.1.0 sizes.enough_to_flush-long.result
           start.args.sound fits.flight_fits-flown.result checks.judged-verdict.result checks.judged-verdict.ensures marked.1.1
-          (record { whole = records_length 32 _ start.requires.1; fits = fits.flight_fits-flown.ensures })).verdict acks in judged') _)
+          (record { whole = start.requires.1; fits = fits.flight_fits-flown.ensures })).verdict acks in judged') _)
           passed.in-Ok.is a.paced a.t
           runs.run.result _ _ _ _
           (runs.run.ensures.0 a.ready.now a.waiting.now a.waiting_numbers.now start.requires.0.whole_ready),
@@ -88,16 +86,16 @@ returns-in-Err c =
           (block_valid (let a = start.args in
           link_of a.settings a.flight a.arrival a.clock
           (arrays a.queued.now a.outstanding.now a.transmissions.now a.ready.now a.waiting.now a.waiting_numbers.now))
-          (records_in start.args.records.now) acks) = λ acks. let fits = checks in
+          start.args.records.now acks) = λ acks. let fits = checks in
           let sizes = fits in
           let start = sizes in
           let marked = start.requires.2 in
           (admitted (let a = start.args in
           link_of a.settings a.flight a.arrival a.clock
           (arrays a.queued.now a.outstanding.now a.transmissions.now a.ready.now a.waiting.now a.waiting_numbers.now))
-          (records_in start.args.records.now) marked.0 marked.1.0 sizes.enough_to_flush-long.result
+          start.args.records.now marked.0 marked.1.0 sizes.enough_to_flush-long.result
           start.args.sound fits.flight_fits-flown.result checks.judged-verdict.result checks.judged-verdict.ensures marked.1.1
-          (record { whole = records_length 32 _ start.requires.1; fits = fits.flight_fits-flown.ensures })).verdict acks in judged') _) _
+          (record { whole = start.requires.1; fits = fits.flight_fits-flown.ensures })).verdict acks in judged') _) _
           answer.in-Err.is a.t _
           c.unflushed.ensures _ a.paced,
       start.requires.1,

@@ -1,5 +1,4 @@
 -- `flush_now`: what its parts give, put together.
-use Prim.Native.Nat.{◌<◌, ◌^◌}
 use borrow.Author.Rules.{rules}
 use Rattle.flush_core.proofs.Ready.{numberable, countable, writable}
 use Rattle.flush_core.proofs.Results.{runs}

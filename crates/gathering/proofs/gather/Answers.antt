@@ -1,10 +1,8 @@
 -- Each turn gathers one record more.
-use Rattle.std.proofs.Common.{◌<◌, ◌%◌, ◌^◌, length, get_or, take, refl, ap, ◌∙◌, rules, arith}
+use Rattle.std.proofs.Common.{◌<◌, ◌%◌, ◌^◌, length, get_or, length-set, take, refl, ap, ◌∙◌, rules, arith}
 use Rattle.protocol.specs.Protocol.{send_slots}
 use Rattle.records.specs.Tables.{slots_in}
 use Rattle.records.proofs.Turns.{slots_counted, slot_listed, gathers_more}
-use Rattle.record_words.specs.RecordWords.{records_in}
-use Rattle.record_words.specs.RecordLaws.{records_none}
 use Rattle.gathering.specs.Reach.{reach}
 use Rattle.gathering.proofs.Listed.{reached}
 use Rattle.gathering.proofs.gather.Goals as goal
@@ -13,7 +11,7 @@ pub loop-i-init : goal.loop-i-init
 loop-i-init c = record {
   within = search rules;
   whole = search rules;
-  so_far = ap records_in c.requires.1 ∙ records_none;
+  so_far = c.requires.1;
 }
 
 pub loop-i-preserved : goal.loop-i-preserved
@@ -26,9 +24,8 @@ loop-i-preserved c =
     let counted = slots_counted ws n c.within-count.result c.told-words c.within-count.ensures.0 in
     let within : i < length (slots_in ws n) = omega arith in
     let word = get_or ws i 0 in
-    let so_far = c.put.ensures.1
-    ∙ gathers_more (take send_slots ys) (records_in c.loop-i.records) (slots_in ws n) i (word % 256) c.read-found.result within
+    let so_far = gathers_more (take send_slots ys) c.loop-i.records (slots_in ws n) i (word % 256) c.read-found.result within
     (omega arith) c.loop-i.invariant.so_far (slot_listed ws n i (word % 256) refl within)
     (reached ys word c.reach-slot.result c.read-found.result room (c.reach-slot.ensures ∙ ap reach c.word_at-word.ensures)
     c.read-found.ensures) in
-    record { within = omega arith; whole = c.put.ensures.0; so_far = so_far }
+    record { within = omega arith; whole = simp length-set c.loop-i.invariant.whole; so_far = so_far }

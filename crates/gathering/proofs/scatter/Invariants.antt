@@ -2,7 +2,6 @@
 use Rattle.std.proofs.Common.{◌-◌, ◌≤◌}
 use Rattle.records.specs.Tables.{slots_in, scattered}
 use Rattle.records.proofs.Turns.{Left}
-use Rattle.record_words.specs.RecordWords.{records_in}
 use Rattle.gathering.proofs.scatter.Given as goal
 
 abbrev pub invariant-loop-i : goal.invariant-loop-i
@@ -10,7 +9,7 @@ invariant-loop-i l =
     let slots = slots_in l.words l.n in
     record {
       within : l.i ≤ l.count;
-      left : Left l.table slots (records_in l.records) l.i (scattered l.fn.table slots (records_in l.records));
+      left : Left l.table slots l.records l.i (scattered l.fn.table slots l.records);
     }
 
 abbrev pub decreases-loop-i : goal.decreases-loop-i

@@ -1,7 +1,5 @@
 -- `input`: the checks of 7 and 13 and those of the datagram, then both halves hear it.
 use mathlib.Core.Path.{refl}
-use Rattle.record_words.specs.RecordWords.{records_in}
-use Rattle.record_words.specs.RecordLaws.{records_length}
 use Rattle.control.specs.Views.{arrays, link_of}
 use Rattle.checking.specs.Verdicts.{Admitted}
 use Rattle.checking.specs.VerdictLaws.{admitted}
@@ -26,14 +24,14 @@ returns-in-Err c =
           Admitted sizes.enough-long.result (let a = s.args in
           link_of a.settings a.flight a.arrival a.clock
           (arrays a.queued.now a.outstanding.now a.transmissions.now a.ready.now a.waiting.now a.waiting_numbers.now))
-          (records_in s.args.records.now) s.requires.2.0 s.args.receive_marks.now
+          s.args.records.now s.requires.2.0 s.args.receive_marks.now
           admit.judged-verdict.result = let fits = admit in
           let s = fits in
           admitted (let a = s.args in
           link_of a.settings a.flight a.arrival a.clock
           (arrays a.queued.now a.outstanding.now a.transmissions.now a.ready.now a.waiting.now a.waiting_numbers.now)) _ _ _ _ s.args.sound
           _ _ admit.judged-verdict.ensures s.requires.2.1
-          (record { whole = records_length 32 _ s.requires.1; fits = fits.flight_fits-flown.ensures }) in judged')
+          (record { whole = s.requires.1; fits = fits.flight_fits-flown.ensures }) in judged')
           _ checks.mss-mss.ensures _ _ checks.checked_by-checked.ensures _ branch.in-Err.is),
       s.requires.1,
     )
@@ -49,14 +47,14 @@ hear-requires c =
     Admitted sizes.enough-long.result (let a = s.args in
     link_of a.settings a.flight a.arrival a.clock
     (arrays a.queued.now a.outstanding.now a.transmissions.now a.ready.now a.waiting.now a.waiting_numbers.now))
-    (records_in s.args.records.now) s.requires.2.0 s.args.receive_marks.now
+    s.args.records.now s.requires.2.0 s.args.receive_marks.now
     admit.judged-verdict.result = let fits = admit in
     let s = fits in
     admitted (let a = s.args in
     link_of a.settings a.flight a.arrival a.clock
     (arrays a.queued.now a.outstanding.now a.transmissions.now a.ready.now a.waiting.now a.waiting_numbers.now)) _ _ _ _ s.args.sound _ _
     admit.judged-verdict.ensures s.requires.2.1
-    (record { whole = records_length 32 _ s.requires.1; fits = fits.flight_fits-flown.ensures }) in judged') in
+    (record { whole = s.requires.1; fits = fits.flight_fits-flown.ensures }) in judged') in
     let passed = passes (let a = s.args in
     link_of a.settings a.flight a.arrival a.clock
     (arrays a.queued.now a.outstanding.now a.transmissions.now a.ready.now a.waiting.now a.waiting_numbers.now)) _ _ s.args.receive_pool.now
@@ -82,14 +80,14 @@ returns c =
     Admitted sizes.enough-long.result (let a = s.args in
     link_of a.settings a.flight a.arrival a.clock
     (arrays a.queued.now a.outstanding.now a.transmissions.now a.ready.now a.waiting.now a.waiting_numbers.now))
-    (records_in s.args.records.now) s.requires.2.0 s.args.receive_marks.now
+    s.args.records.now s.requires.2.0 s.args.receive_marks.now
     admit.judged-verdict.result = let fits = admit in
     let s = fits in
     admitted (let a = s.args in
     link_of a.settings a.flight a.arrival a.clock
     (arrays a.queued.now a.outstanding.now a.transmissions.now a.ready.now a.waiting.now a.waiting_numbers.now)) _ _ _ _ s.args.sound _ _
     admit.judged-verdict.ensures s.requires.2.1
-    (record { whole = records_length 32 _ s.requires.1; fits = fits.flight_fits-flown.ensures }) in judged') in
+    (record { whole = s.requires.1; fits = fits.flight_fits-flown.ensures }) in judged') in
     let passed = passes (let a = s.args in
     link_of a.settings a.flight a.arrival a.clock
     (arrays a.queued.now a.outstanding.now a.transmissions.now a.ready.now a.waiting.now a.waiting_numbers.now)) _ _ s.args.receive_pool.now

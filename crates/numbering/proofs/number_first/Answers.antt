@@ -9,8 +9,8 @@ loop-i-init c = numbering_start _ _ _ _ _ _ _ (search rules) (search rules) (sea
 pub loop-i-preserved : goal.loop-i-preserved
 loop-i-preserved c =
     let p = c.requires in
-    numbering_more _ _ _ _ _ _ _ _ _ _ _ _ _ c.loop-i.invariant _ _ _ p.0 p.4 c.loop-i-test.true
-    c.numbered_record.ensures c.put.ensures c.sum-number.ensures
+    numbering_more _ _ _ _ _ _ _ _ _ _ _ _ _ c.loop-i.invariant _ _ p.0 p.4 c.loop-i-test.true
+    c.numbered_record.ensures c.sum-number.ensures
 
 pub returns : goal.returns
 returns c = numbering_done _ _ _ _ _ _ _ _ _ _ _ _ _ c.loop-i.invariant c.loop-i-test.false

@@ -8,6 +8,6 @@ pub returns : goal.returns
 returns c = (
   whole_len c.args.g
       c.args.s.now c.args.p _
-      c.found_shard-t.ensures c.wide.result (c.wide.ensures ∙ c.read_u16.ensures),
+      c.found_shard-t.ensures c.wide.result (c.wide.ensures ∙ c.read.ensures),
   search rules,
 )

@@ -14,7 +14,7 @@ slice_bounds-result-end c =
     let e = whole_len c.args.g
     c.args.s.now
     c.args.p _ c.found_shard-t.ensures
-    c.wide-n.result (c.wide-n.ensures ∙ c.read_u16.ensures) in
+    c.wide-n.result (c.wide-n.ensures ∙ c.read.ensures) in
     let l = lens_least c.args.g.k
     (shard_in c.args.s.now
     c.args.g.held)
@@ -40,7 +40,7 @@ returns c =
     let e = whole_len c.args.g
     c.args.s.now
     c.args.p _ c.found_shard-t.ensures
-    c.wide-n.result (c.wide-n.ensures ∙ c.read_u16.ensures) in
+    c.wide-n.result (c.wide-n.ensures ∙ c.read.ensures) in
     let l = lens_least c.args.g.k
     (shard_in c.args.s.now
     c.args.g.held)

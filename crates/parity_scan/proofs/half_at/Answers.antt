@@ -5,5 +5,5 @@ use Rattle.parity_scan.specs.ScanLaws.{number_at_part}
 use Rattle.parity_scan.proofs.half_at.Goals as goal
 
 pub returns : goal.returns
-returns c = c.read_u16.ensures ∙ sym (number_at_part 2 c.args.s.now c.args.at
+returns c = c.read.ensures ∙ sym (number_at_part 2 c.args.s.now c.args.at
     c.args.n c.args.i (search rules))

@@ -6,6 +6,6 @@ use Rattle.parity_scan.specs.ScanLaws.{number_at_part}
 use Rattle.parity_scan.proofs.sequence_at.Goals as goal
 
 pub returns : goal.returns
-returns c = c.wide.ensures ∙ c.read_u32.ensures ∙ sym
+returns c = c.wide.ensures ∙ c.read.ensures ∙ sym
     (number_at_part 4 c.args.s.now c.args.at c.args.n 0
     (search rules) ∙ rw add-zero)

@@ -1,7 +1,5 @@
 -- `settings_file::has_magic` meets its contract: the bytes passed are those of the magic.
 use mathlib.Core.Path.{◌≡◌, refl, sym}
-use mathlib.Core.Bool.{true}
-use Prim.Native.Nat.{◌-◌}
 use native.Mathlib.Omega.{arith}
 use borrow.Author.Rules.{rules}
 use Rattle.settings_file.specs.Files.{magic, same_first, has_magic}

@@ -2,7 +2,7 @@
 use mathlib.Core.Path.{◌≡◌}
 use mathlib.Core.Bool.{true}
 use Prim.Native.Nat.{◌-◌, ◌≤◌}
-use Rattle.settings_file.specs.Files.{magic, same_first, has_magic}
+use Rattle.settings_file.specs.Files.{magic, same_first}
 use Rattle.settings_file.proofs.has_magic.Given as goal
 
 abbrev pub invariant-loop-i : goal.invariant-loop-i

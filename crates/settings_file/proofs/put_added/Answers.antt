@@ -3,4 +3,4 @@ use Rattle.settings_file.specs.FileLaws.{added_stored}
 use Rattle.settings_file.proofs.put_added.Goals as goal
 
 pub returns : goal.returns
-returns c = added_stored _ _ c.put_u8.ensures c.put_u8-2.ensures
+returns c = added_stored _ _ c.put.ensures c.put-2.ensures

@@ -5,8 +5,8 @@ use Rattle.settings_file.proofs.put_back.Goals as goal
 pub returns : goal.returns
 returns c =
     back_stored _ _
-    c.put_u32.ensures
-    c.put_u16.ensures
-    c.put_u8.ensures
-    c.put_u16-2.ensures
-    c.put_u8-2.ensures
+    c.put.ensures
+    c.put-2.ensures
+    c.put-3.ensures
+    c.put-4.ensures
+    c.put-5.ensures

@@ -3,4 +3,4 @@ use Rattle.settings_file.specs.FileLaws.{front_stored}
 use Rattle.settings_file.proofs.put_front.Goals as goal
 
 pub returns : goal.returns
-returns c = front_stored _ _ c.copy_part.ensures c.put_u16.ensures
+returns c = front_stored _ _ c.copy_part.ensures c.put.ensures

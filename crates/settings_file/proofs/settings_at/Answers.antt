@@ -5,11 +5,11 @@ use Rattle.settings_file.proofs.settings_at.Goals as goal
 pub returns : goal.returns
 unfolding settings_at
 returns c = λ i. record {
-  conv = c.read_u32.ensures i;
-  mtu = c.read_u16.ensures i;
-  interval = c.read_u16-2.ensures i;
-  mode = c.read_u8.ensures i;
-  threshold = c.read_u8-2.ensures i;
+  conv = c.read.ensures i;
+  mtu = c.read-2.ensures i;
+  interval = c.read-3.ensures i;
+  mode = c.read-4.ensures i;
+  threshold = c.read-5.ensures i;
   stream = c.args.stream;
   congestion = c.args.congestion;
 }

@@ -1,8 +1,6 @@
 -- The records are gathered from the table, and those that the core left are put back: what it left is what taking in promises.
 use Rattle.std.proofs.Common.{◌∙◌, refl, rules}
 use Rattle.control.specs.Views.{arrays, link_of}
-use Rattle.record_words.specs.RecordWords.{records_in}
-use Rattle.record_words.specs.RecordLaws.{records_length}
 use Rattle.codes.specs.Codes.{answer_code}
 use Rattle.codes.proofs.Told.{told, returned}
 use Rattle.promises.specs.Parts.{parts_of}
@@ -20,19 +18,19 @@ returns c =
     let h = c.args.link.now in
     let p = parts_of c.args.send_pool.now c.args.receive_pool.now c.args.table.now c.args.acks.now in
     let m = c.table_len-lent.result in
-    let g = gathers h p c.outstanding_count-n.result (records_in c.gather.new.records) m c.outstanding_count-n.ensures c.gather.ensures.1
+    let g = gathers h p c.outstanding_count-n.result c.gather.new.records m c.outstanding_count-n.ensures c.gather.ensures.1
     c.table_len-lent.ensures in
     let a = c.input-taken.result in
     let after = c.input-taken.new in
     let lists = arrays h.queued after.outstanding after.transmissions after.ready after.waiting after.waiting_numbers in
     let l = link_of h.settings a.flight a.arrival h.clock lists in
-    let records = records_in after.records in
+    let records = after.records in
     let b : PutBack = record { words = after.outstanding; changed = a.changed; records = records } in
-    let left = input_left c.args.datagram.now h p a.answer b l after.receive_pool after.acks (records_in c.gather.new.records) m g c.whole.ensures
+    let left = input_left c.args.datagram.now h p a.answer b l after.receive_pool after.acks c.gather.new.records m g c.whole.ensures
     c.input-taken.ensures.0 in
     let put = put_back c.args.table.now c.scatter.new.table b after.outstanding c.taken_changed-n.result records refl
     c.taken_changed-n.ensures refl c.scatter.ensures in
     told answer_code _ a.answer (returned c.taken_code.type_inv ∙ c.taken_code.ensures)
     (rw (c.taken_flight-flight.ensures, c.taken_arrival-arrival.ensures)
     (input_promised c.args.datagram.now h p a.answer b l after.receive_pool after.acks c.scatter.new.table
-    (records_length 32 after.records c.input-taken.ensures.1) put left))
+    c.input-taken.ensures.1 put left))

@@ -3,8 +3,6 @@ use mathlib.Core.Path.{◌≡◌}
 use lib.ListN.{length, take}
 use borrow.Author.Rules.{rules}
 use Rattle.lists.proofs.Loops.{length_mapped}
-use Rattle.record_words.specs.RecordWords.{records_in}
-use Rattle.record_words.specs.RecordLaws.{records_length}
 use Rattle.promises.specs.Cores.{PutBack}
 use Rattle.promises.specs.Parts.{parts_of}
 use Rattle.from_cores.proofs.TakingIn.{input_left, input_promised}
@@ -22,11 +20,11 @@ returns c =
     let p = parts_of a.send_pool.now a.receive_pool.now (take a.lent a.table) a.acks.now in
     let whole : length a.table ≡ 128 = search (rules, length_mapped, c.well_formed.1.1.1.0) in
     let len = lent_length a.table a.lent _ whole c.lent_count-n.ensures.0 in
-    let g : Gathers a.link p (records_in c.gather-records.result) c.lent_count-n.result
+    let g : Gathers a.link p c.gather-records.result c.lent_count-n.result
     = record { padding = c.gather-records.ensures; len = len } in
     let core = c.input-done.ensures in
-    let b : PutBack = record { words = _; changed = c.input-done.result.changed; records = records_in _ } in
-    let few : length b.records ≡ 32 = records_length 32 _ core.1 in
+    let b : PutBack = record { words = _; changed = c.input-done.result.changed; records = _ } in
+    let few : length b.records ≡ 32 = core.1 in
     let put = c.scatter-next.ensures in
     let old = whole_of a.link _ c.well_formed.0 in
     let left = input_left a.datagram.now a.link p _ b _ _ _ _ _ g

@@ -3,7 +3,6 @@ use mathlib.Core.Path.{◌≡◌, ap, ◌∙◌}
 use lib.ListN.{length, take}
 use borrow.Author.Rules.{rules}
 use Rattle.lists.proofs.Loops.{length_mapped}
-use Rattle.record_words.specs.RecordWords.{records_in}
 use Rattle.promises.specs.Parts.{parts_of}
 use Rattle.from_cores.proofs.Reading.{read_promised}
 use Rattle.from_cores.proofs.Gathered.{Gathers, padded_whole}
@@ -31,7 +30,7 @@ returns c =
     let p = parts_of a.send_pool.now a.receive_pool.now (take a.lent a.table) a.acks.now in
     let whole : length a.table ≡ 128 = search (rules, length_mapped, c.well_formed.1.1.1.0) in
     let len = lent_length a.table a.lent _ whole c.lent_count-n.ensures.0 in
-    let g : Gathers a.link p (records_in c.gather-records.result) c.lent_count-n.result
+    let g : Gathers a.link p c.gather-records.result c.lent_count-n.result
     = record { padding = c.gather-records.ensures; len = len } in
     read_promised a.link p _ _ g a.buffer.now _ _ _ (c.read-done.ensures _
     (record {

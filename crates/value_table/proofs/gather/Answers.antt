@@ -1,11 +1,9 @@
 -- `gather`: the records of the words before index i are gathered.
 use mathlib.Core.Path.{refl, sym, ap, ◌∙◌}
 use Prim.Native.Nat.{◌<◌}
-use lib.ListN.{length, take}
+use lib.ListN.{length, length-set, take}
 use Rattle.records.specs.Tables.{slots_in, gathered, padded}
 use Rattle.records.proofs.Turns.{slots_counted, slot_listed, gathers_more, gathers_all}
-use Rattle.record_words.specs.RecordWords.{records_in}
-use Rattle.record_words.specs.RecordLaws.{records_none}
 use Rattle.value_table.proofs.Turns.{front_all}
 use mathlib.Core.List.{List}
 use native.Mathlib.Omega.{arith}
@@ -21,7 +19,7 @@ loop-i-init c =
       slots_counted a.words a.n _ (search rules) c.within-count.ensures.0,
       c.within-count.ensures.1,
       rw c.none-records.ensures refl,
-      ap records_in c.none-records.ensures ∙ records_none,
+      c.none-records.ensures,
     )
 
 pub loop-i-preserved : goal.loop-i-preserved
@@ -33,8 +31,8 @@ loop-i-preserved c =
       search rules,
       v.1,
       v.2,
-      c.put.ensures.0,
-      c.put.ensures.1 ∙ gathers_more (take c.lent_count-most.result a.table) _ (slots_in a.words a.n) i _ _ h
+      simp length-set v.3,
+      gathers_more (take c.lent_count-most.result a.table) _ (slots_in a.words a.n) i _ _ h
           (omega (arith, v.2, c.loop-i-test.true)) v.4 (slot_listed a.words a.n i _ c.slot_of-slot.ensures h)
           c.read-found.ensures,
     )

@@ -3,7 +3,6 @@ use mathlib.Core.Path.{◌≡◌}
 use Prim.Native.Nat.{◌-◌, ◌≤◌}
 use lib.ListN.{length, take}
 use Rattle.records.specs.Tables.{slots_in, gathered, padded}
-use Rattle.record_words.specs.RecordWords.{records_in}
 use Rattle.value_table.proofs.gather.Given as goal
 
 abbrev pub invariant-loop-i : goal.invariant-loop-i
@@ -11,8 +10,8 @@ invariant-loop-i l =
     (l.i ≤ l.count)
     × (l.count ≡ length (slots_in l.words l.n))
     × (l.count ≤ 32)
-    × (length l.records ≡ 128)
-    × (records_in l.records ≡ padded (gathered (take l.most l.table) (take l.i (slots_in l.words l.n))))
+    × (length l.records ≡ 32)
+    × (l.records ≡ padded (gathered (take l.most l.table) (take l.i (slots_in l.words l.n))))
 
 abbrev pub decreases-loop-i : goal.decreases-loop-i
 decreases-loop-i l = l.count - l.i

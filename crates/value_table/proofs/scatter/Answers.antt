@@ -1,11 +1,9 @@
 -- `scatter`: what is left to put back.
 use mathlib.Core.Path.{◌≡◌, sym, ap, ◌∙◌}
 use Prim.Native.Nat.{◌<◌}
-use lib.ListN.{length, take, set}
+use lib.ListN.{length}
 use Rattle.records.specs.Tables.{slots_in, scattered}
 use Rattle.records.proofs.Turns.{slot_listed, scatters_more, scatters_all}
-use Rattle.record_words.specs.RecordWords.{records_in}
-use Rattle.record_words.specs.RecordLaws.{records_length}
 use Rattle.value_table.proofs.Turns.{lent_front, lent_rest}
 use mathlib.Core.List.{List}
 use native.Mathlib.Omega.{arith}
@@ -21,7 +19,7 @@ loop-i-preserved c =
     let i = c.loop-i.i in
     let slot = c.slot_of-slot in
     let h : i < length (slots_in a.words a.n) = omega (arith, v.1, c.loop-i-test.true) in
-    let g : i < length (records_in a.records) = omega (arith, records_length 32 a.records v.4, v.2, c.loop-i-test.true) in (
+    let g : i < length a.records = omega (arith, v.4, v.2, c.loop-i-test.true) in (
       search rules,
       v.1,
       v.2,
@@ -29,8 +27,7 @@ loop-i-preserved c =
       v.4,
       scatters_more _ _ _ (slots_in a.words a.n) i _ h g v.5
           (slot_listed a.words a.n i _ slot.ensures h)
-          (c.replace-changed.ensures.0 ∙ ap (set (take c.lent_count-most.result c.loop-i.next) slot.result)
-          c.at-updated.ensures),
+          c.replace-changed.ensures.0,
       c.replace-changed.ensures.1 ∙ v.6,
     )
 
@@ -44,6 +41,6 @@ returns c =
     let whole : length a.table ≡ 128 = search (rules, length_mapped) in (
       sym (lent_front c.loop-i.next a.lent m v.3 e) ∙ scatters_all _ _ s c.loop-i.i
           (omega (arith, v.1, c.loop-i-test.false)) v.5
-          ∙ ap (λ (t : List Record). scattered t s (records_in a.records)) (lent_front a.table a.lent m whole e),
+          ∙ ap (λ (t : List Record). scattered t s a.records) (lent_front a.table a.lent m whole e),
       sym (lent_rest c.loop-i.next a.lent m v.3 e) ∙ v.6 ∙ lent_rest a.table a.lent m whole e,
     )

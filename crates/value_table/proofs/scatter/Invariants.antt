@@ -4,7 +4,6 @@ use Prim.Native.Nat.{◌-◌, ◌≤◌}
 use lib.ListN.{length, take, drop}
 use Rattle.records.specs.Tables.{slots_in, scattered}
 use Rattle.records.proofs.Turns.{Left}
-use Rattle.record_words.specs.RecordWords.{records_in}
 use Rattle.value_table.proofs.scatter.Given as goal
 
 abbrev pub invariant-loop-i : goal.invariant-loop-i
@@ -13,9 +12,9 @@ invariant-loop-i l =
     × (l.count ≡ length (slots_in l.words l.n))
     × (l.count ≤ 32)
     × (length l.next ≡ 128)
-    × (length l.records ≡ 128)
-    × Left (take l.most l.next) (slots_in l.words l.n) (records_in l.records) l.i
-    (scattered (take l.most l.initial.next) (slots_in l.words l.n) (records_in l.records))
+    × (length l.records ≡ 32)
+    × Left (take l.most l.next) (slots_in l.words l.n) l.records l.i
+    (scattered (take l.most l.initial.next) (slots_in l.words l.n) l.records)
     × (drop l.most l.next ≡ drop l.most l.initial.next)
 
 abbrev pub decreases-loop-i : goal.decreases-loop-i

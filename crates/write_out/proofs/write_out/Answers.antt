@@ -1,8 +1,6 @@
 -- The records are gathered from the table, and those that the core left are put back: what it left is what the call gives.
 use Rattle.std.proofs.Common.{◌∙◌, refl, rules}
 use Rattle.control.specs.Views.{arrays, link_of}
-use Rattle.record_words.specs.RecordWords.{records_in}
-use Rattle.record_words.specs.RecordLaws.{records_length}
 use Rattle.codes.proofs.Told.{returned}
 use Rattle.promises.specs.Parts.{parts_of, flush_parts_of}
 use Rattle.promises.specs.Cores.{PutBack}
@@ -24,18 +22,18 @@ returns c =
     let p = parts_of c.args.send_pool.now c.args.receive_pool.now c.args.table.now c.args.acks.now in
     let into = flush_parts_of c.args.output.now c.args.lengths.now in
     let m = c.table_len-lent.result in
-    let g = gathers h p c.outstanding_count-n.result (records_in c.gather.new.records) m c.outstanding_count-n.ensures c.gather.ensures.1
+    let g = gathers h p c.outstanding_count-n.result c.gather.new.records m c.outstanding_count-n.ensures c.gather.ensures.1
     c.table_len-lent.ensures in
     let a = c.flush-flushed.result in
     let after = c.flush-flushed.new in
     let lists = arrays after.queued after.outstanding after.transmissions h.ready h.waiting h.waiting_numbers in
     let l = link_of h.settings a.flight a.arrival a.clock lists in
-    let records = records_in after.records in
+    let records = after.records in
     let filled = flush_parts_of after.output after.lengths in
     let b : PutBack = record { words = after.outstanding; changed = a.changed; records = records } in
-    let over = left c.args.paced c.args.t h p into a l records filled (records_in c.gather.new.records) m g c.whole.ensures c.flush-flushed.ensures.0 in
+    let over = left c.args.paced c.args.t h p into a l records filled c.gather.new.records m g c.whole.ensures c.flush-flushed.ensures.0 in
     let put = put_back c.args.table.now c.scatter.new.table b after.outstanding c.flushed_changed-n.result records refl
     c.flushed_changed-n.ensures refl c.scatter.ensures in
     rw (c.flushed_flight-flight.ensures, c.flushed_arrival-arrival.ensures, c.flushed_clock-clock.ensures)
     (gives c.args.paced c.args.t h p into a.answer b l filled c.scatter.new.table
-    (records_length 32 after.records c.flush-flushed.ensures.1) put over _ (returned c.flushed_code.type_inv ∙ c.flushed_code.ensures))
+    c.flush-flushed.ensures.1 put over _ (returned c.flushed_code.type_inv ∙ c.flushed_code.ensures))

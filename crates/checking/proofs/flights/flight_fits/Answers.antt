@@ -5,16 +5,14 @@ use native.Mathlib.Omega.{arith}
 use borrow.Author.Rules.{rules}
 use Rattle.timing.specs.declared.Record.{Record}
 use Rattle.records.specs.Tables.{blank}
-use Rattle.record_words.specs.RecordWords.{records_in}
-use Rattle.record_words.specs.RecordLaws.{records_length}
-use Rattle.checking.specs.Tests.{least_after, flown_by, flight_fits}
+use Rattle.checking.specs.Tests.{flown_by, flight_fits}
 use Rattle.checking.specs.FlownLaws.{flown_fits}
 use Rattle.checking.proofs.Turns.{least_next, least_end, looked_all}
 use Rattle.checking.proofs.flights.flight_fits.Goals as goal
 
 pub loop-i-init : goal.loop-i-init
 loop-i-init c =
-    (search rules, records_length 32 c.args.records.now c.requires, refl)
+    (search rules, c.requires, refl)
 
 pub loop-i-preserved : goal.loop-i-preserved
 loop-i-preserved c =
@@ -23,9 +21,9 @@ loop-i-preserved c =
     let n = c.looked_at-n in (
       search rules,
       l.invariant.1,
-      least_next _ _ _ (records_in a.records.now) n.result l.i _ l.least l.invariant.2 blank _
+      least_next _ _ _ a.records.now n.result l.i _ l.least l.invariant.2 blank _
           c.loop-i-test.true (omega (arith, n.ensures.1, l.invariant.1))
-          (c.next_least-least.ensures ∙ ap (least_after a.settings.mode a.flight.una a.flight.next l.least) c.at-found.ensures),
+          c.next_least-least.ensures,
     )
 
 pub returns : goal.returns

@@ -13,6 +13,6 @@ returns c =
     c.args.out.now _ _ _ _
     (length_part c.args.s.now c.args.from
     c.args.n (search rules))
-    c.put_u32.ensures
-    c.put_u16.ensures
-    c.put_u16-2.ensures c.copy_part.ensures
+    c.put.ensures
+    c.put-2.ensures
+    c.put-3.ensures c.copy_part.ensures

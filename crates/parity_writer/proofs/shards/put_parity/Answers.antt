@@ -11,5 +11,5 @@ returns c =
     c.args.s.now c.args.lengths.now
     c.args.out.now _ _ _
     (search rules) (c.wide-size.ensures ∙ c.largest_of.ensures)
-    (search rules) c.put_u32.ensures
-    c.put_u16.ensures c.parity_row.ensures
+    (search rules) c.put.ensures
+    c.put-2.ensures c.parity_row.ensures

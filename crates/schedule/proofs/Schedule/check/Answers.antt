@@ -1,7 +1,6 @@
 -- `schedule::Schedule::check` meets its contract.
 use mathlib.Core.Path.{sym}
 use borrow.Author.Tests.{not-true, not-false}
-use Rattle.record_words.specs.RecordLaws.{records_length}
 use Rattle.schedule.specs.ScheduleLaws.{named_first, named_made}
 use Rattle.schedule.proofs.Distances.{take_held}
 use Rattle.schedule.proofs.Schedule.check.Goals as goal
@@ -11,7 +10,7 @@ returns-then-not-self c = sym (named_first _ _ _ _ (not-true _ c.if-not-self.tru
 
 pub returns : goal.returns
 returns c =
-    let rs = records_length 32 _ c.requires in
+    let rs = c.requires in
     rw (
       c.sum.ensures,
       c.earliest.ensures,

@@ -1,19 +1,14 @@
 -- `schedule::times::earliest` meets its contract: the least so far stands for the records before index i.
-use Prim.Native.Nat.{◌-◌}
-use mathlib.Core.Path.{sym, ap, ◌∙◌}
+use mathlib.Core.Path.{sym, ◌∙◌}
 use native.Mathlib.Omega.{arith}
 use borrow.Author.Rules.{rules}
-use Rattle.timing.specs.declared.Record.{Record}
 use Rattle.records.specs.Tables.{blank}
-use Rattle.record_words.specs.RecordWords.{records_in}
-use Rattle.record_words.specs.RecordLaws.{records_length}
-use Rattle.schedule.specs.Schedules.{earliest, ahead}
 use Rattle.schedule.proofs.Distances.{earliest_next, earliest_end}
 use Rattle.schedule.proofs.times.earliest.Goals as goal
 
 pub loop-i-init : goal.loop-i-init
 loop-i-init c =
-    (search rules, omega (arith, c.requires.1, records_length 32 c.args.records.now c.requires.0), search rules)
+    (search rules, omega (arith, c.requires.1, c.requires.0), search rules)
 
 pub loop-i-preserved : goal.loop-i-preserved
 loop-i-preserved c =
@@ -21,9 +16,9 @@ loop-i-preserved c =
     let l = c.loop-i in (
       search rules,
       l.invariant.1,
-      l.invariant.2 ∙ earliest_next a.t l.wait a.n l.i (records_in a.records.now) blank _ _
+      l.invariant.2 ∙ earliest_next a.t l.wait a.n l.i a.records.now blank _ _
           c.loop-i-test.true l.invariant.1
-          (c.ahead.ensures ∙ ap (λ (r : Record). ahead a.t r.due) c.at-one.ensures) c.least-wait.ensures,
+          c.ahead.ensures c.least-wait.ensures,
     )
 
 pub returns : goal.returns

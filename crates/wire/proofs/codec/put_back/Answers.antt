@@ -5,7 +5,7 @@ use Rattle.wire.proofs.codec.put_back.Goals as goal
 pub returns : goal.returns
 returns c =
     back_stored _ _ _
-    c.put_u32.ensures
-    c.put_u32-2.ensures
-    c.put_u32-3.ensures
-    c.put_u32-4.ensures
+    c.put.ensures
+    c.put-2.ensures
+    c.put-3.ensures
+    c.put-4.ensures

@@ -5,7 +5,7 @@ use Rattle.wire.proofs.codec.put_front.Goals as goal
 pub returns : goal.returns
 returns c =
     front_stored _ _ _
-    c.put_u32.ensures
-    c.put_u8.ensures
-    c.put_u8-2.ensures
-    c.put_u16.ensures
+    c.put.ensures
+    c.put-2.ensures
+    c.put-3.ensures
+    c.put-4.ensures

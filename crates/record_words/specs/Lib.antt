@@ -1,2 +1,0 @@
-pub mod RecordWords
-pub mod RecordLaws
