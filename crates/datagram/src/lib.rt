@@ -64,7 +64,7 @@ pub fn check(s: &[u8], conv: u32, mss: usize) -> Result<usize, Refusal>
 }
 
 // The segment at `at`. From 0 on, and then at each `next`, these are the segments of a datagram that `check` accepts.
-#[tactic(auto, using(crate::specs::FoundLaws::found_whole, crate::specs::FoundLaws::found_short), unfolding(crate::specs::Datagrams::step_at))]
+#[tactic(auto, unfolding(crate::specs::Datagrams::step_at, wire::specs::Headers::header_at))]
 pub fn segment_at(s: &[u8], at: usize) -> Option<Segment>
     ensures { result ≡ step_at s.now at }
 {
