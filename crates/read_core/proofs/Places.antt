@@ -3,11 +3,12 @@
 use mathlib.Core.Path.{◌≡◌, refl, sym, ◌∙◌}
 use mathlib.Core.Bool.{Bool, true, false, false≢true}
 use mathlib.Core.List.{List, [], ◌∷◌}
-use Prim.Native.Nat.{ℕ, ◌+◌, ◌-◌, ◌*◌, ◌≤◌, ◌<◌, ◌^◌}
+use Prim.Native.Nat.{ℕ, ◌+◌, ◌*◌, ◌≤◌, ◌<◌, ◌^◌}
 use native.Mathlib.Nat.{mul-le-mul_right}
 use native.Mathlib.Decide.{dec_lt}
 use native.Mathlib.Omega.{arith}
 use lib.ListN.{length, take, drop, get_or}
+use lib.Seq.{get_or-take, length-take-le}
 use Rattle.protocol.specs.Protocol.{receive_slots}
 use Rattle.protocol.specs.Ranges.{mss}
 use Rattle.protocol.specs.declared.Refusal.{Refusal}
@@ -22,7 +23,7 @@ use Rattle.checking.specs.VerdictLaws.{Passes}
 use Rattle.promises.specs.Outcomes.{checked}
 use Rattle.promises.specs.Promises.{shown, place_of, LiesAt, ShowsPart}
 use Rattle.deliver.specs.Messages.{InSlots}
-use Rattle.deliver.proofs.Fronts.{rest_next, rest_end}
+use Rattle.deliver.proofs.Fronts.{rest, rest_next}
 use Rattle.deliver.proofs.Copies.{in_slot}
 use Rattle.read_core.specs.declared.Place.{Place}
 use Rattle.read_core.specs.Messages.{Readable}
@@ -39,23 +40,25 @@ part_low : (m : ℕ) (l : List Held) → InSlots m l → (front_part m l).start 
 part_low m [] i = omega arith
 part_low m (h ∷ l) i = in_slot m h.slot h.len (receive_slots * m) i.slots.0 i.lengths.0 (omega arith)
 
+-- n words
 module _ (m : ℕ) (ws : List ℕ) (n : ℕ) (b : Bool) (e : b ≡ readable (held_in ws n)) where
   -- where a message can be read, there is a front segment
-  some : b ≡ true → 0 < n
-  some t = go (dec_lt 0 n)
+  some : b ≡ true → n ≤ length ws → held_in ws n ≡ unpack (get_or ws 0 0) ∷ rest (take n ws) 1
+  some t g = go (dec_lt 0 n)
     where
-      go : Dec (0 < n) → 0 < n
-      go (yes h) = h
-      go (no h) = absurd (false≢true (sym (rw (rest_end ws n 0 (omega arith)) at e) ∙ t))
+      go : Dec (0 < n) → held_in ws n ≡ unpack (get_or ws 0 0) ∷ rest (take n ws) 1
+      go (yes h) =
+          let size : length (take n ws) ≡ n = length-take-le n ws g in
+          rest_next (take n ws) 0 (omega arith) ∙ rw (get_or-take n ws 0 0 h)
+      go (no h) = let z : n ≡ 0 = omega arith in absurd (false≢true (sym (rw z at e) ∙ t))
 
-  pub front_placed : b ≡ true → n ≤ length ws → InSlots m (held_in ws n) → (slot len : ℕ) → slot ≡ (unpack (get_or ws 0 0)).slot
-      → len ≡ (unpack (get_or ws 0 0)).len
-      → PlaceIs (place_of (front_outcome m (held_in ws n))) (receive_slots * m) (record { start = slot * m; count = len })
+  pub front_placed : b ≡ true → n ≤ length ws → InSlots m (held_in ws n)
+      → PlaceIs (place_of (front_outcome m (held_in ws n))) (receive_slots * m)
+      (record { start = (unpack (get_or ws 0 0)).slot * m; count = (unpack (get_or ws 0 0)).len })
   unfolding front_outcome place_of
-  front_placed t g i slot len p q =
-      let first = rest_next ws n 0 (some t) g in
-      let low = rw (first, ← p, ← q) at (part_low m (held_in ws n) i) in
-      rw (sym e ∙ t, first, ← p, ← q) (record { start = refl; count = refl; within = low })
+  front_placed t g i =
+      let low = rw (some t g) at (part_low m (held_in ws n) i) in
+      rw (sym e ∙ t, some t g) (record { start = refl; count = refl; within = low })
 
   pub front_unplaced : b ≡ false → PlaceIs (place_of (front_outcome m (held_in ws n))) (receive_slots * m) (record { start = 0; count = 0 })
   unfolding front_outcome place_of

@@ -126,6 +126,14 @@ module _ (c : Settings) (f : Flight) (a : Arrival) (k : Clock) (queued outstandi
   reads_block m q ok h = rw (← read_by_lem (state_of before records acks) pool (length buffer))
       (by_outcome ok (fitting_of (held_in ready a.ready) (length buffer)) refl (rw q at h))
 
+-- the lists that come back are those that were left
+pub reads_back : (o : Outcome ℕ) (a : Arrival) (m : ℕ) (ready waiting numbers pool buffer : List ℕ) (answer : Count) (r : Arrival)
+    (ready' waiting' numbers' buffer' : List ℕ) {ready'' waiting'' numbers'' : List ℕ}
+    → ReadMessage o a m ready waiting numbers pool buffer answer r ready' waiting' numbers' buffer'
+    → ready'' ≡ ready' → waiting'' ≡ waiting' → numbers'' ≡ numbers'
+    → ReadMessage o a m ready waiting numbers pool buffer answer r ready'' waiting'' numbers'' buffer'
+reads_back o a m ready waiting numbers pool buffer answer r ready' waiting' numbers' buffer' h e f g = rw (e, f, g) h
+
 -- ---- behind the checks, and where they refuse
 
 pub own_read : (l : Link) (records : List Record) (acks buffer : List ℕ) (answer : Count) (l' : Link) (buffer' : List ℕ) (long made : Bool)

@@ -10,14 +10,17 @@ ghost use Rattle.checking.specs.Verdicts.{Flies, ByFlown, Sounds};
 ghost use Rattle.promises.specs.Answers.{count_outcome};
 ghost use Rattle.promises.specs.Outcomes.{tells_with, shows_with};
 ghost use Rattle.promises.specs.Parts.{lent_lengths};
-ghost use Rattle.arriving.specs.Arrivals.{WholeLists, Fits};
+ghost use Rattle.arriving.specs.Arrivals.{Same, Fits};
+ghost use Rattle.arriving.specs.Arrivals as arriving;
 ghost use Rattle.deliver.specs.Messages.{InSlots, InPool, fitting_of};
 ghost use Rattle.read_core.specs.Messages.{ReadOver, ReadMessage};
 ghost use Rattle.promises.specs.Promises.{place_of, LiesAt, ShowsPart};
 ghost use Rattle.read_core.specs.Places.{front_outcome, PlaceIs};
 
 use answers::Answer;
+use arriving::Incoming;
 use control::{Arrival, Clock, Flight};
+use lists::Held;
 use protocol::Settings;
 use sizes::Lengths;
 
@@ -36,35 +39,19 @@ pub struct Place {
 }
 
 // Reading over a block that has passed the checks of 7 and 13.
-fn read_message(
-    arrival: Arrival,
-    ready: &mut [u32; 128],
-    waiting: &mut [u32; 128],
-    numbers: &mut [u32; 128],
-    mss: usize,
-    pool: &[u8],
-    buffer: &mut [u8],
-) -> Delivered
-    requires { WholeLists ready.old waiting.old numbers.old × Fits arrival
-        × InPool mss pool.now (held_in ready.old arrival.ready) }
-    ensures { ReadMessage (fitting_of (held_in ready.old arrival.ready) (length buffer.old))
-        arrival mss ready.old waiting.old numbers.old pool.now buffer.old
-        result.answer result.arrival ready.new waiting.new numbers.new buffer.new }
+fn read_message(half: &mut Incoming, mss: usize, pool: &[u8], buffer: &mut [u8]) -> Answer<usize>
+    requires { arriving.Whole half.old × Fits half.old.arrival
+        × InPool mss pool.now (held_in half.old.ready.now half.old.arrival.ready) }
+    ensures same { Same half.old half.new }
+    ensures reads { ReadMessage (fitting_of (held_in half.old.ready.now half.old.arrival.ready) (length buffer.old))
+        half.old.arrival mss half.old.ready.now half.old.waiting.now half.old.numbers.now pool.now buffer.old
+        result half.new.arrival half.new.ready.now half.new.waiting.now half.new.numbers.now buffer.new }
 {
-    let found = deliver::fitting(ready, arrival.ready, buffer.len());
-    match found {
-        Ok(size) => {
-            let after = deliver::take(arrival, ready, waiting, numbers, mss, pool, buffer);
-            Delivered {
-                answer: Ok(size),
-                arrival: after,
-            }
-        }
-        Err(r) => Delivered {
-            answer: Err(r),
-            arrival,
-        },
-    }
+    let n = half.arrival.ready;
+    let ready = &mut *half.ready;
+    let size = deliver::fitting(ready, n, buffer.len())?;
+    deliver::take(half, mss, pool, buffer);
+    Ok(size)
 }
 
 // Reading checks 7, 13, then 9, then 7 for the message buffer. `table` is the length of the lent table.
@@ -113,16 +100,17 @@ pub fn read(
     let verdict = checking::judged(long, sound & flown);
     match verdict {
         Ok(()) => {
-            let mss = settings.mss();
-            read_message(
+            let mut half = Incoming {
                 arrival,
                 ready,
                 waiting,
-                waiting_numbers,
-                mss,
-                receive_pool,
-                buffer,
-            )
+                numbers: waiting_numbers,
+            };
+            let answer = read_message(&mut half, settings.mss(), receive_pool, buffer);
+            Delivered {
+                answer,
+                arrival: half.arrival,
+            }
         }
         Err(r) => Delivered {
             answer: Err(r),
@@ -171,21 +159,21 @@ pub fn size(
     let long = sizes::enough(settings, lent);
     let verdict = checking::judged(long, sound & flown);
     match verdict {
-        Ok(()) => deliver::front_size(ready, arrival.ready),
+        Ok(()) => deliver::front_size(&ready[..arrival.ready]),
         Err(r) => Err(r),
     }
 }
 
 // Where the front segment's payload lies; 0 and 0 where no message can be read.
 fn front_place(mss: usize, ready: &[u32; 128], n: usize) -> Place
-    requires { (length ready.now ≡ 128) × (n ≤ 128) × InSlots mss (held_in ready.now n) × (mss < 2 ^ 16) }
+    requires { (n ≤ 128) × InSlots mss (held_in ready.now n) × (mss < 2 ^ 16) }
     ensures { PlaceIs (place_of (front_outcome mss (held_in ready.now n))) (receive_slots * mss) result }
 {
-    if deliver::readable(ready, n) {
-        let word = ready[0];
+    if deliver::readable(&ready[..n]) {
+        let held = Held::from(ready[0]);
         Place {
-            start: deliver::slot_of(word) * mss,
-            count: deliver::len_of(word),
+            start: held.slot as usize * mss,
+            count: held.len as usize,
         }
     } else {
         Place { start: 0, count: 0 }

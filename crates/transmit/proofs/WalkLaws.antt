@@ -10,6 +10,7 @@ use lib.Dec.{eqb}
 use lib.ListN.{length, take, drop, get_or, set, length-set}
 use lib.Seq.{take-add, take-take, set-get_or}
 use Rattle.timing.specs.declared.Record.{Record}
+use Rattle.retransmission.specs.Transmissions.{is_sent, is_late, is_fast}
 use Rattle.retransmission.specs.declared.Transmission.{Transmission}
 use Rattle.retransmission.specs.TransmissionLaws.{transmission_not_sent}
 use Rattle.lists.specs.declared.Sent.{Sent}
@@ -53,7 +54,7 @@ some_more test l y = rw (some_append test l (y ∷ []), or-false)
 -- ---- those that are sent
 
 -- the rule for the last one decides whether it is sent, and whether the link is dead by it
-module _ (f : Flush) (y x : Sent) (sends : Bool) (p : sends ≡ (rule_of f y).rule.sends) (q : x ≡ after_rule (rule_of f y)) where
+module _ (f : Flush) (y x : Sent) (sends : Bool) (p : sends ≡ is_sent (rule_of f y).rule) (q : x ≡ after_rule (rule_of f y)) where
   one_sent_lem : sent_by f (y ∷ []) ≡ cond sends (x ∷ []) []
   unfolding transmitted
   one_sent_lem = rw (p, q)
@@ -150,31 +151,31 @@ module _ (f : Flush) (n : ℕ) (pool : List ℕ) (k₀ : Packer) (out₀ lengths
         turn : (ts' : List ℕ) (rs' : List Record) (k' : Packer) (out' lengths' : List ℕ) (b : Bool)
             → length ts' ≡ 32 → length rs' ≡ 32
             → set (sents ws ts rs) i (sent_as (get_or ws i 0) x) ≡ sents ws ts' rs'
-            → Adds f.settings.mtu (wished x.sends (data_of f pool (sent_as (get_or ws i 0) x))) f.settings.mtu 1 k out lengths k'
+            → Adds f.settings.mtu (wished (is_sent x) (data_of f pool (sent_as (get_or ws i 0) x))) f.settings.mtu 1 k out lengths k'
             out' lengths'
-            → b ≡ (x.sends && eqb x.transmissions 20)
-            → Walking f n pool k₀ out₀ lengths₀ l₀ ws ts' rs' k' out' lengths' (dead || b) (late || x.late) (fast || x.fast)
-            (sent || x.sends) (i + 1)
+            → b ≡ (is_sent x && eqb x.transmissions 20)
+            → Walking f n pool k₀ out₀ lengths₀ l₀ ws ts' rs' k' out' lengths' (dead || b) (late || is_late x) (fast || is_fast x)
+            (sent || is_sent x) (i + 1)
         turn ts' rs' k' out' lengths' b l m s a t =
             let more = prefix_more (take n l₀) (drop (i + 1) (take n l₀)) i read next in
-            let sends = ap (λ (y : Transmission). y.sends) e in
+            let sends = ap (λ (y : Transmission). is_sent y) e in
             record {
               wholes = l;
               whole_records = m;
               list = rw (← s, after) (packed_put h (rw next at w.list));
-              adds = rw (more, sent_data f read (sent_as (get_or ws i 0) x) x.sends sends after)
+              adds = rw (more, sent_data f read (sent_as (get_or ws i 0) x) (is_sent x) sends after)
                   (adds_as (adds_append w.adds a) refl (omega arith) (omega arith));
-              dead = rw (more, sent_dead f read (sent_as (get_or ws i 0) x) x.sends sends after, ← w.dead, ← t);
+              dead = rw (more, sent_dead f read (sent_as (get_or ws i 0) x) (is_sent x) sends after, ← w.dead, ← t);
               late = rw (more, map-append, some_more, ← w.late, ← e);
               fast = rw (more, map-append, some_more, ← w.fast, ← e);
               sends = rw (more, map-append, some_more, ← w.sends, ← e);
             }
 
         -- it is sent
-        pub walking_sent : (k' : Packer) (out' lengths' : List ℕ) → x.sends ≡ true
+        pub walking_sent : (k' : Packer) (out' lengths' : List ℕ) → is_sent x ≡ true
             → Adds f.settings.mtu (data_of f pool (sent_as (get_or ws i 0) x) ∷ []) f.settings.mtu 1 k out lengths k' out' lengths'
             → Walking f n pool k₀ out₀ lengths₀ l₀ ws (set ts i x.transmissions) (set rs i x.updated) k' out' lengths'
-            (dead || eqb x.transmissions 20) (late || x.late) (fast || x.fast) true (i + 1)
+            (dead || eqb x.transmissions 20) (late || is_late x) (fast || is_fast x) true (i + 1)
         walking_sent k' out' lengths' s a =
             rw (s, or-true sent) at (turn (set ts i x.transmissions) (set rs i x.updated) k' out' lengths' (eqb x.transmissions 20)
             (length-set ts i x.transmissions ∙ w.wholes) (length-set rs i x.updated ∙ w.whole_records)
@@ -183,17 +184,17 @@ module _ (f : Flush) (n : ℕ) (pool : List ℕ) (k₀ : Packer) (out₀ lengths
             (rw s))
 
         -- it is not sent, and stays
-        pub walking_unchanged : x.sends ≡ false → Walking f n pool k₀ out₀ lengths₀ l₀ ws ts rs k out lengths dead late fast sent (i + 1)
+        pub walking_unchanged : is_sent x ≡ false → Walking f n pool k₀ out₀ lengths₀ l₀ ws ts rs k out lengths dead late fast sent (i + 1)
         walking_unchanged s =
             let same = e ∙ transmission_not_sent f.settings f.timeout f.t (get_or ts i 0) (get_or rs i r)
-            (sym (ap (λ (y : Transmission). y.sends) e) ∙ s) in
-            let on-time : x.late ≡ false = ap (λ (y : Transmission). y.late) same in
-            let in-turn : x.fast ≡ false = ap (λ (y : Transmission). y.fast) same in
+            (sym (ap (λ (y : Transmission). is_sent y) e) ∙ s) in
+            let on-time : is_late x ≡ false = ap (λ (y : Transmission). is_late y) same in
+            let in-turn : is_fast x ≡ false = ap (λ (y : Transmission). is_fast y) same in
             rw (on-time, in-turn, s, or-false dead, or-false late, or-false fast, or-false sent) at (turn ts rs k out lengths false
             w.wholes w.whole_records
             (ap (λ (y : Sent). set (sents ws ts rs) i y) (ap (sent_as (get_or ws i 0)) same ∙ sym here)
             ∙ set-get_or (sents ws ts rs) i (with_record (outstanding_at 0 0) r))
-            (wished_none _ _ _ _ k out lengths x.sends s w.adds.fills)
+            (wished_none _ _ _ _ k out lengths (is_sent x) s w.adds.fills)
             (rw s))
 
   -- all are handled

@@ -10,7 +10,7 @@ use crate::{Flush, Walked};
 use lists::{Held, Sent};
 use packing::Packer;
 use protocol::Protocol;
-use retransmission::{Transmission, outstanding};
+use retransmission::{Cause, Transmission, outstanding};
 use timing::Record;
 
 // The data of the segment of this word, sent as its rule says.
@@ -80,14 +80,14 @@ pub(crate) fn put_outstanding(
             transmissions[i],
             old,
         );
-        if x.sends {
+        if let Some(cause) = x.cause {
             let updated = x.updated;
             transmissions[i] = x.transmissions;
             records[i] = updated;
             k = put_sent(k, flush, words[i], x, pool, out, lengths);
             dead = dead | (x.transmissions == Protocol::DEAD_AFTER);
-            late = late | x.late;
-            fast = fast | x.fast;
+            late = late | (cause == Cause::Late);
+            fast = fast | (cause == Cause::Fast);
             sent = true;
         }
         i += 1;

@@ -5,9 +5,7 @@ use Rattle.read_core.proofs.front_place.Goals as goal
 
 pub returns-then-readable : goal.returns-then-readable
 returns-then-readable c =
-    front_placed _ c.args.ready.now c.args.n _ c.readable.ensures
-    c.if-readable.true (omega (arith, c.requires.0, c.requires.1)) c.requires.2 _ _ c.slot_of.ensures.0
-    c.len_of.ensures.0
+    rw c.from-held.ensures (front_placed _ c.args.ready.now c.args.n _ c.readable.ensures c.if-readable.true (omega arith) c.requires.1)
 
 pub returns-else-readable : goal.returns-else-readable
 returns-else-readable c = front_unplaced _ c.args.ready.now c.args.n _ c.readable.ensures c.if-readable.false
