@@ -11,6 +11,7 @@ use lib.ListN.{length, take, drop, get_or, set, length-set}
 use lib.Seq.{take-add, take-take, set-get_or}
 use Rattle.timing.specs.declared.Record.{Record}
 use Rattle.retransmission.specs.declared.Transmission.{Transmission}
+use Rattle.retransmission.specs.Transmissions.{is_sent, is_late, is_fast}
 use Rattle.retransmission.specs.TransmissionLaws.{transmission_not_sent}
 use Rattle.lists.specs.declared.Sent.{Sent}
 use Rattle.lists.specs.Joining.{with_record}
@@ -55,7 +56,7 @@ some_more test l y = rw (some_append test l (y ∷ []), or-false)
 -- ---- those that are sent
 
 -- the rule for the last one decides whether it is sent, and whether the link is dead by it
-module _ (f : Flush) (y x : Sent) (sends : Bool) (p : sends ≡ (rule_of f y).rule.sends) (q : x ≡ after_rule (rule_of f y)) where
+module _ (f : Flush) (y x : Sent) (sends : Bool) (p : sends ≡ is_sent (rule_of f y).rule) (q : x ≡ after_rule (rule_of f y)) where
   one_sent_lem : sent_by f (y ∷ []) ≡ cond sends (x ∷ []) []
   unfolding transmitted
   one_sent_lem = rw (p, q)
@@ -143,38 +144,38 @@ module _ (f : Flush) (n : ℕ) (pool : List ℕ) (o : Writer) (l₀ : List Sent)
         turn : (ts' : List ℕ) (rs' : List Record) (v' : Writer) (b : Bool)
             → length ts' ≡ 32 → length rs' ≡ 32
             → set (sents ws ts rs) i (sent_as (get_or ws i 0) x) ≡ sents ws ts' rs' → Same v v'
-            → AddsTo (wished x.sends (data_of f pool (sent_as (get_or ws i 0) x))) f.settings.mtu 1 v v'
-            → b ≡ (x.sends && eqb x.transmissions 20)
+            → AddsTo (wished (is_sent x) (data_of f pool (sent_as (get_or ws i 0) x))) f.settings.mtu 1 v v'
+            → b ≡ (is_sent x && eqb x.transmissions 20)
             → Walking f n pool o l₀ ws ts' rs' v' (record {
               dead = t.dead || b;
-              late = t.late || x.late;
-              fast = t.fast || x.fast;
-              sent = t.sent || x.sends;
+              late = t.late || is_late x;
+              fast = t.fast || is_fast x;
+              sent = t.sent || is_sent x;
             }) (i + 1)
         turn ts' rs' v' b l m s keeps a d =
             let more = prefix_more (take n l₀) (drop (i + 1) (take n l₀)) i read next in
-            let sends = ap (λ (y : Transmission). y.sends) e in
+            let sends = ap (λ (y : Transmission). is_sent y) e in
             record {
               same = same_on w.same keeps;
               suits = record { mtu = keeps.mtu ∙ w.suits.mtu; carried = keeps.carried ∙ w.suits.carried };
               wholes = l;
               whole_records = m;
               list = rw (← s, after) (packed_put h (rw next at w.list));
-              adds = rw (more, sent_data f read (sent_as (get_or ws i 0) x) x.sends sends after)
+              adds = rw (more, sent_data f read (sent_as (get_or ws i 0) x) (is_sent x) sends after)
                   (adds_as (adds_append w.adds (rw w.same.mtu at a)) refl (omega arith) (omega arith));
-              dead = rw (more, sent_dead f read (sent_as (get_or ws i 0) x) x.sends sends after, ← w.dead, ← d);
+              dead = rw (more, sent_dead f read (sent_as (get_or ws i 0) x) (is_sent x) sends after, ← w.dead, ← d);
               late = rw (more, map-append, some_more, ← w.late, ← e);
               fast = rw (more, map-append, some_more, ← w.fast, ← e);
               sends = rw (more, map-append, some_more, ← w.sends, ← e);
             }
 
         -- it is sent
-        pub walking_sent : (v' : Writer) → x.sends ≡ true → Same v v'
+        pub walking_sent : (v' : Writer) → is_sent x ≡ true → Same v v'
             → AddsTo (data_of f pool (sent_as (get_or ws i 0) x) ∷ []) f.settings.mtu 1 v v'
             → Walking f n pool o l₀ ws (set ts i x.transmissions) (set rs i x.updated) v' (record {
               dead = t.dead || eqb x.transmissions 20;
-              late = t.late || x.late;
-              fast = t.fast || x.fast;
+              late = t.late || is_late x;
+              fast = t.fast || is_fast x;
               sent = true;
             }) (i + 1)
         walking_sent v' s keeps a =
@@ -186,18 +187,18 @@ module _ (f : Flush) (n : ℕ) (pool : List ℕ) (o : Writer) (l₀ : List Sent)
             (rw s))
 
         -- it is not sent, and stays
-        pub walking_unchanged : x.sends ≡ false → Walking f n pool o l₀ ws ts rs v t (i + 1)
+        pub walking_unchanged : is_sent x ≡ false → Walking f n pool o l₀ ws ts rs v t (i + 1)
         walking_unchanged s =
             let same = e ∙ transmission_not_sent f.settings f.timeout f.t (get_or ts i 0) (get_or rs i r)
-            (sym (ap (λ (y : Transmission). y.sends) e) ∙ s) in
-            let on-time : x.late ≡ false = ap (λ (y : Transmission). y.late) same in
-            let in-turn : x.fast ≡ false = ap (λ (y : Transmission). y.fast) same in
+            (sym (ap (λ (y : Transmission). is_sent y) e) ∙ s) in
+            let on-time : is_late x ≡ false = ap (λ (y : Transmission). is_late y) same in
+            let in-turn : is_fast x ≡ false = ap (λ (y : Transmission). is_fast y) same in
             rw (on-time, in-turn, s, or-false t.dead, or-false t.late, or-false t.fast, or-false t.sent) at (turn ts rs v false
             w.wholes w.whole_records
             (ap (λ (y : Sent). set (sents ws ts rs) i y) (ap (sent_as (get_or ws i 0)) same ∙ sym here)
             ∙ set-get_or (sents ws ts rs) i (with_record (outstanding_at 0 0) r))
             (record { mtu = refl; carried = refl; out = refl; lengths = refl })
-            (wished_none _ _ _ _ v.packer v.out.now v.lengths.now x.sends s (rw w.same.mtu w.adds.fills))
+            (wished_none _ _ _ _ v.packer v.out.now v.lengths.now (is_sent x) s (rw w.same.mtu w.adds.fills))
             (rw s))
 
   -- all are handled

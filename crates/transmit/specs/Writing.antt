@@ -4,6 +4,7 @@ use Rattle.std.specs.Prelude.{◌≡◌, Bool, List, ◌++◌, map, ℕ, ◌+◌
 use Rattle.protocol.specs.Protocol.{window_ask, window_tell, send_slots}
 use Rattle.protocol.specs.Ranges.{mss}
 use Rattle.timing.specs.declared.Record.{Record}
+use Rattle.retransmission.specs.Transmissions.{is_sent, is_late, is_fast}
 use Rattle.retransmission.specs.declared.Transmission.{Transmission}
 use Rattle.lists.specs.declared.Held.{Held}
 use Rattle.lists.specs.declared.Sent.{Sent}
@@ -52,14 +53,14 @@ sent_by f l = transmitted (rules_of f l)
 
 -- one is sent because it was due, or because it was skipped
 abbrev pub late_by : Flush → List Sent → Bool
-late_by f l = some (λ (r : Ruled). r.rule.late) (rules_of f l)
+late_by f l = some (λ (r : Ruled). is_late r.rule) (rules_of f l)
 
 abbrev pub fast_by : Flush → List Sent → Bool
-fast_by f l = some (λ (r : Ruled). r.rule.fast) (rules_of f l)
+fast_by f l = some (λ (r : Ruled). is_fast r.rule) (rules_of f l)
 
 -- one is sent
 abbrev pub sends_by : Flush → List Sent → Bool
-sends_by f l = some (λ (r : Ruled). r.rule.sends) (rules_of f l)
+sends_by f l = some (λ (r : Ruled). is_sent r.rule) (rules_of f l)
 
 -- one of them as a data segment
 abbrev pub data_of : Flush → List ℕ → Sent → Segment

@@ -10,7 +10,7 @@ use crate::{Flush, Told};
 use lists::{Held, Sent};
 use packing::Writer;
 use protocol::Protocol;
-use retransmission::{Transmission, outstanding};
+use retransmission::{Cause, Transmission, outstanding};
 use timing::Record;
 
 // The data of the segment of this word, sent as its rule says.
@@ -58,16 +58,16 @@ pub(crate) fn put_outstanding(
             transmissions[i],
             records[i],
         );
-        if !x.sends {
+        let Some(cause) = x.cause else {
             continue;
-        }
+        };
         transmissions[i] = x.transmissions;
         records[i] = x.updated;
         put_sent(writer, flush, words[i], x, pool);
         told = Told {
             dead: told.dead | (x.transmissions == Protocol::DEAD_AFTER),
-            late: told.late | x.late,
-            fast: told.fast | x.fast,
+            late: told.late | (cause == Cause::Late),
+            fast: told.fast | (cause == Cause::Fast),
             sent: true,
         };
     }
