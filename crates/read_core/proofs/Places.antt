@@ -64,17 +64,14 @@ module _ (m : ℕ) (ws : List ℕ) (n : ℕ) (b : Bool) (e : b ≡ readable (hel
   unfolding front_outcome place_of
   front_unplaced f = rw (sym e ∙ f) (record { start = refl; count = refl; within = omega arith })
 
--- ---- behind the checks, and where they refuse
+-- ---- over a block that has passed the checks, and where showing is refused
 
-pub placed : (l : Link) (records : List Record) (acks pool : List ℕ) (long made : Bool) → Passes long made → Readable l pool → (m : ℕ)
-    → m ≡ mss l.settings → (r : Place)
+pub placed : (l : Link) (records : List Record) (acks pool : List ℕ) → Readable l pool → (m : ℕ) → m ≡ mss l.settings → (r : Place)
     → PlaceIs (place_of (front_outcome m (held_in l.ready l.arrival.ready))) (receive_slots * m) r
-    → PlaceIs (place_of (checked long made (showing (state_of l records acks)))) (length pool) r
+    → PlaceIs (place_of (showing (state_of l records acks))) (length pool) r
 unfolding showing state_of front_outcome place_of
-placed l records acks pool long made p ok m e r h =
-    let q = rw e at h in
-    rw (p.long_enough_lem, p.valid_block) (record
-    { start = q.start; count = q.count; within = omega (arith, q.within, ok.inside.whole) })
+placed l records acks pool ok m e r h =
+    let q = rw e at h in record { start = q.start; count = q.count; within = omega (arith, q.within, ok.inside.whole) }
 
 pub unplaced : (o : Outcome Part) (q : Refusal) → o ≡ refused q → (size : ℕ) → PlaceIs (place_of o) size (record { start = 0; count = 0 })
 unfolding place_of

@@ -134,12 +134,7 @@ pub reads_back : (o : Outcome ℕ) (a : Arrival) (m : ℕ) (ready waiting number
     → ReadMessage o a m ready waiting numbers pool buffer answer r ready'' waiting'' numbers'' buffer'
 reads_back o a m ready waiting numbers pool buffer answer r ready' waiting' numbers' buffer' h e f g = rw (e, f, g) h
 
--- ---- behind the checks, and where they refuse
-
-pub own_read : (l : Link) (records : List Record) (acks buffer : List ℕ) (answer : Count) (l' : Link) (buffer' : List ℕ) (long made : Bool)
-    (own : Outcome Reads) → Passes long made
-    → ReadCore own l records acks buffer answer l' buffer' → ReadCore (checked long made own) l records acks buffer answer l' buffer'
-own_read l records acks buffer answer l' buffer' long made own p h = rw (p.long_enough_lem, p.valid_block) h
+-- ---- where a check refuses
 
 pub not_read : (o : Outcome Reads) (q : Refusal) → o ≡ refused q → (l : Link) (records : List Record) (acks buffer : List ℕ)
     → ReadCore o l records acks buffer (Err q) l buffer
@@ -147,8 +142,7 @@ not_read o q e l records acks buffer = rw e (refl, refl, refl)
 
 -- ---- telling
 
-pub tells_block : (l : Link) (records : List Record) (acks : List ℕ) (long made : Bool) → Passes long made → (r : Count)
-    → count_outcome r ≡ size_of (held_in l.ready l.arrival.ready)
-    → count_outcome r ≡ checked long made (telling (state_of l records acks))
+pub tells_block : (l : Link) (records : List Record) (acks : List ℕ) (r : Count) → count_outcome r ≡ size_of (held_in l.ready l.arrival.ready)
+    → count_outcome r ≡ telling (state_of l records acks)
 unfolding size_of telling message_size state_of
-tells_block l records acks long made p r e = rw (p.long_enough_lem, p.valid_block) e
+tells_block l records acks r e = e
