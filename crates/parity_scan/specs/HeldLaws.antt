@@ -63,6 +63,10 @@ sized_is h p = go (slice_index_or h p None)
     go None = refl
     go (Some x) = sym (lt-ltb 0 x.size x.some)
 
+-- the same, as a place is read
+pub sized_at : (h : Held) (p : ℕ) (d : Option Span) → p < length h → is_some (slice_index_or h p d) ≡ sized h p
+sized_at h p d l = ap is_some (get_or_default h p d None l) ∙ sized_is h p
+
 pub count_is : (h : Held) (n : ℕ) → n ≤ length h → count_by is_some (take n h) ≡ count (sized h) n
 unfolding count
 count_is h zero l = refl
@@ -81,8 +85,8 @@ count_is h (suc n) l = go (is_some (slice_index_or h n None)) refl (count_is h n
 module _ (h : Held) (p : ℕ) (x : Span) (d : Option Span) (l : p < length h) where
   pub noted_first : is_some (slice_index_or h p d) ≡ false → set h p (Some x) ≡ noted h p x
   unfolding noted
-  noted_first e = rw (← sized_is h p, get_or_default h p None d l, e)
+  noted_first e = rw (← sized_at h p d l, e)
 
   pub noted_later : is_some (slice_index_or h p d) ≡ true → h ≡ noted h p x
   unfolding noted
-  noted_later e = rw (← sized_is h p, get_or_default h p None d l, e)
+  noted_later e = rw (← sized_at h p d l, e)

@@ -2,7 +2,7 @@
 -- b is the bench before the command, s, r and a are send pool, receive pool and ack list, and text is where the answer goes;
 -- x is what is given, and s', r', a' and text' are the parts and the text after it.
 -- Assumes nothing.
-use Rattle.std.specs.Prelude.{◌≡◌, true, false, Option, Some, None, List, ◌++◌, ℕ, ◌-◌, ◌≤◌, ◌<◌, min, length, take, drop, get_or, set, replicate, Err, None, Ok, Some}
+use Rattle.std.specs.Prelude.{◌≡◌, true, false, Option, List, ◌++◌, ℕ, ◌-◌, ◌≤◌, ◌<◌, min, length, take, drop, get_or, set, replicate, Err, None, Ok, Some}
 use Rattle.protocol.specs.Protocol.{output_least, lengths_least}
 use Rattle.protocol.specs.declared.Settings.{Settings}
 use Rattle.protocol.specs.declared.Refusal.TheVariants.{InvalidBlock}
