@@ -55,7 +55,7 @@ fn remaining(
     next: u32,
     h: Header,
 ) -> usize
-    requires { (length words.old ≡ 32) × (length transmissions.old ≡ 32) × (length records.old ≡ 32) × (n ≤ 32) }
+    requires { n ≤ 32 }
     ensures { JoinedIn words.new transmissions.new result records.new
         (filter (stays_by next h)
         (joined (outstanding_in words.old transmissions.old n) records.old))
@@ -122,7 +122,7 @@ fn skipped(old: Record, number: u32) -> Record
 
 // The records, where each of the first n whose number is before the given one has one skip more.
 fn skip_before(records: &mut [Record; 32], n: usize, number: u32)
-    requires { (length records.old ≡ 32) × (n ≤ 32) }
+    requires { n ≤ 32 }
     ensures { (take n records.new ≡ map (skip_record number) (take n records.old))
         × (length records.new ≡ 32) }
 {

@@ -10,9 +10,8 @@ use Rattle.acknowledge.proofs.remaining.Goals as goal
 
 pub loop-i-init : goal.loop-i-init
 loop-i-init c =
-    let many = c.requires.2 in
-    let long = beside_length _ _ _ _ c.requires.0 c.requires.1 many in
-    (c.requires.0, c.requires.1, c.requires.2, packed_start _ _ _ (search rules) (search rules) (search rules) long)
+    let long = beside_length _ _ _ _ c.told-words c.told-transmissions c.told-records in
+    (c.told-words, c.told-transmissions, c.told-records, packed_start _ _ _ (search rules) (search rules) (search rules) long)
 
 pub loop-i-preserved-then-not-stays : goal.loop-i-preserved-then-not-stays
 loop-i-preserved-then-not-stays c =
