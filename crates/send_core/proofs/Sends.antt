@@ -17,8 +17,6 @@ use Rattle.protocol.specs.declared.Settings.{Settings}
 use Rattle.timing.specs.declared.Record.{Record}
 use Rattle.lists.specs.declared.Held.{Held}
 use Rattle.lists.specs.declared.Sent as outstanding
-use Rattle.sizes.specs.Sizes.{enough}
-use Rattle.sizes.specs.declared.Lengths.{Lengths}
 use Rattle.session.specs.Decides.{All, and_parts}
 use Rattle.session.specs.State.{State, Outcome, refused, done, send_held, slots, with_queued}
 use Rattle.session.specs.Cutting.{segment_count, cut_as}
@@ -40,10 +38,8 @@ use Rattle.checking.specs.Verdicts.{Checked, verdict_of}
 use Rattle.checking.specs.VerdictLaws.{Passes, refused_by_lem, passed_by}
 use Rattle.checking.proofs.Halves.{send_slots_lem}
 use Rattle.enqueue.specs.Enqueueing.{Enqueueable, PartsOf, Follows}
-use Rattle.promises.specs.Outcomes.{sends_with}
 use Rattle.promises.specs.Cores.{SendCore}
-use Rattle.send_core.specs.declared.Submitted.{Submitted}
-use Rattle.send_core.specs.Sending.{with_count, Enqueues}
+use Rattle.send_core.specs.Sending.{Sendable}
 use Rattle.answers.specs.Answers.{Answer}
 use Rattle.std.specs.Prelude.{Err, Ok}
 
@@ -65,6 +61,19 @@ queued_alone s pool m x e =
     go true b q p e = absurd (let z : ◌≡◌ {A = ℕ} 0 1 = cc in omega arith)
     go false true q p e = absurd (let z : ◌≡◌ {A = ℕ} 0 1 = cc in omega arith)
     go false false q p e = let i : record { state = with_queued s q; pool = p } ≡ x = cc in rw (← i)
+
+-- the numbers with another count of queued segments
+abbrev pub with_count : Flight → ℕ → Flight
+with_count f n =
+    record {
+      una = f.una;
+      next = f.next;
+      rtt = f.rtt;
+      window = f.window;
+      congestion = f.congestion;
+      queued = n;
+      outstanding = f.outstanding;
+    }
 
 -- the arrays with other queued segments
 abbrev pub with_words : Arrays → List ℕ → Arrays
@@ -111,7 +120,7 @@ module _ (s : Settings) (f : Flight) (a : Arrival) (k : Clock) (x : Arrays) (rs 
       distinct_few send_slots used (once_distinct used o)
       (all_mapped (λ (n : ℕ). n < send_slots) (λ (h : Held). h.slot) (send_held (state_of link rs acks).sending) a)
 
-  pub record Sendable (n : Lengths) (marks : List ℕ) : Type 0 where
+  pub record Established (size : ℕ) (marks : List ℕ) : Type 0 where
     pub counts_fit_lem : counts_fit link ≡ true
     pub held : length used ≡ f.outstanding + f.queued
     pub few : length used ≤ send_slots
@@ -120,56 +129,35 @@ module _ (s : Settings) (f : Flight) (a : Arrival) (k : Clock) (x : Arrays) (rs 
     pub free : Free marks used 0
     pub some : 0 < mss s
     pub word : mss s < 2 ^ 16
-    pub long_enough_lem : send_slots * mss s ≤ n.send
+    pub long_enough_lem : send_slots * mss s ≤ size
 
-  -- by the lent sizes and the verdict
-  module _ (n : Lengths) (long : Bool) (v : Answer) (e : long ≡ enough (mss s) n) (g : v ≡ verdict_of long (block_valid link rs acks)) where
-    -- refused: nothing changes
-    pub refuses : (r : Refusal) (pool message : List ℕ) → v ≡ Err r
-        → SendCore (sends_with link rs acks n pool message) link rs acks pool (Err r) link pool
-    unfolding sends_with
-    refuses r pool message q = rw (← e, refused_by_lem (sending (state_of link rs acks) pool message) long (block_valid link rs acks) v r g q)
-        (refl, refl, refl)
-
-    module _ (p : v ≡ Ok tt) where
-      passing : Passes long (block_valid link rs acks)
-      passing = passed_by long (block_valid link rs acks) v g p
-
-      pub sendable : (send receive : List ℕ) → Checked link rs send receive true → Whole x → length rs ≡ 32 → Sendable n send
-      unfolding block_valid enough state_of
-      sendable send receive c w l =
-          let u = and_parts (counts_fit link) _ passing.valid_block in
-          let all = (valid_decides (state_of link rs acks)).holds u.1 in
-          let range = all.settings in
-          let half = all.sending in
-          let room = leb-true (send_slots * mss s) n.send
-          (and_parts _ _ (and_parts _ _ (and_parts _ _ (sym e ∙ passing.long_enough_lem)).0).0).0 in
-          record {
-            counts_fit_lem = u.0;
-            held = used_count w l u.0;
-            few = used_few half.slots_once half.slots_below;
-            low = all_right (λ (h : Held). h.slot < send_slots)
-                (map (λ (y : outstanding.Sent). y.held) (state_of link rs acks).sending.outstanding)
-                (held_in x.queued f.queued) half.slots_below;
-            whole_marks = c.send_whole;
-            free = c.send_free acks refl;
-            some = omega (arith, range.mtu_least_lem);
-            word = omega (arith, range.mtu_most_lem);
-            long_enough_lem = room;
-          }
-
-      -- what is left of the call's own
-      pub passes : (pool message : List ℕ) (b : Answer) (l' : Link) (pool' : List ℕ)
-          → SendCore (sending (state_of link rs acks) pool message) link rs acks pool b l' pool'
-          → SendCore (sends_with link rs acks n pool message) link rs acks pool b l' pool'
-      unfolding sends_with
-      passes pool message b l' pool' h = rw (sym e ∙ passing.long_enough_lem, passing.valid_block) h
+  pub established : {marks pool : List ℕ} → Sendable link rs marks pool → Whole x → Established (length pool) marks
+  unfolding block_valid state_of
+  established ready w =
+      let c = ready.checked.1 in
+      let u = and_parts (counts_fit link) _ (sym (c.fits acks)) in
+      let all = (valid_decides (state_of link rs acks)).holds u.1 in
+      let range = all.settings in
+      let half = all.sending in
+      record {
+        counts_fit_lem = u.0;
+        held = used_count w ready.whole u.0;
+        few = used_few half.slots_once half.slots_below;
+        low = all_right (λ (h : Held). h.slot < send_slots)
+            (map (λ (y : outstanding.Sent). y.held) (state_of link rs acks).sending.outstanding)
+            (held_in x.queued f.queued) half.slots_below;
+        whole_marks = c.send_whole;
+        free = c.send_free acks refl;
+        some = omega (arith, range.mtu_least_lem);
+        word = omega (arith, range.mtu_most_lem);
+        long_enough_lem = ready.slots;
+      }
 
   -- ---- enqueueing
 
-  module _ {n : Lengths} {marks : List ℕ} (p : Sendable n marks) {stream : Bool} {m : ℕ} (mode : stream ≡ is_stream s) (size : m ≡ mss s)
+  module _ {n : ℕ} {marks : List ℕ} (p : Established n marks) {stream : Bool} {m : ℕ} (mode : stream ≡ is_stream s) (size : m ≡ mss s)
     where
-      pub enqueueable : Whole x → (pool : List ℕ) → n.send ≡ length pool
+      pub enqueueable : Whole x → (pool : List ℕ) → n ≡ length pool
           → Enqueueable m x.queued f.queued f.outstanding marks pool
       unfolding counts_fit
       enqueueable w pool l =
@@ -216,11 +204,12 @@ module _ (s : Settings) (f : Flight) (a : Arrival) (k : Clock) (x : Arrays) (rs 
         pool = h.pool;
       }
 
-  -- what sending past the checks gives, as the block
-  pub sent : {n : Lengths} {marks : List ℕ} (p : Sendable n marks) (stream : Bool) (m : ℕ) → stream ≡ is_stream s → m ≡ mss s
-      → (pool message : List ℕ) (r : Submitted) (q pool' : List ℕ) → Enqueues stream m f x.queued marks pool message r q pool'
-      → SendCore (sending (state_of link rs acks) pool message) link rs acks pool r.answer (link_of s r.flight a k (with_words x q))
-      pool'
-  sent p stream m mode size pool message r q pool' h =
-      rw h.count_alone (put_back pool message pool' q r.answer r.flight.queued (sending (state_of link rs acks) pool message) refl
-      (h.follows (state_of link rs acks) (parts p mode size)) p.counts_fit_lem)
+  -- what enqueueing leaves, as the block
+  pub sent : {n : ℕ} {marks : List ℕ} (p : Established n marks) (stream : Bool) (m : ℕ) → stream ≡ is_stream s → m ≡ mss s
+      → (pool message : List ℕ) (b : Answer) (count : ℕ) (q pool' : List ℕ)
+      → ((y : State) → PartsOf y stream m x.queued f.queued f.outstanding marks
+      → Follows (sending y pool message) x.queued f.queued pool b count q pool')
+      → SendCore (sending (state_of link rs acks) pool message) link rs acks pool b (link_of s (with_count f count) a k (with_words x q)) pool'
+  sent p stream m mode size pool message b count q pool' h =
+      put_back pool message pool' q b count (sending (state_of link rs acks) pool message) refl (h (state_of link rs acks) (parts p mode size))
+      p.counts_fit_lem
