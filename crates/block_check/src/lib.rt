@@ -3,14 +3,11 @@
 
 ghost use Rattle.std.specs.Prelude.{◌≡◌};
 ghost use Rattle.marks.specs.Marks.{none, none_to_send};
-ghost use Rattle.protocol.specs.Ranges.{mss};
-ghost use Rattle.sizes.specs.Sizes.{enough};
 ghost use Rattle.checking.specs.Verdicts.{Sound, Admitted};
 ghost use Rattle.block_check.specs.Lent.{lent_records};
 
 use answers::Answer;
 use control::Link;
-use sizes::Lengths;
 use timing::Record;
 
 // Whether a block is one that this link makes, but for the records of its outstanding segments. The slots held are marked.
@@ -38,20 +35,19 @@ pub fn sound(link: &Link, send_marks: &mut [u8; 128], receive_marks: &mut [u8; 2
     )
 }
 
-// 7, then 13, the records of the outstanding segments in the lent table among it. The slots held are marked.
+// 7, where the lent parts are not long enough, then 13, the records of the outstanding segments in the lent table among it. The slots held
+// are marked.
 pub fn check(
     link: &Link,
+    long: bool,
     table: &[Record],
-    lent: Lengths,
     send_marks: &mut [u8; 128],
     receive_marks: &mut [u8; 256],
 ) -> Answer<()>
     requires { (send_marks.old ≡ none_to_send) × (receive_marks.old ≡ none) }
-    ensures { Admitted (enough (mss link.now.settings) lent) link.now (lent_records link.now table.now)
-        send_marks.new receive_marks.new result }
+    ensures { Admitted long link.now (lent_records link.now table.now) send_marks.new receive_marks.new result }
 {
     let sound = sound(link, send_marks, receive_marks);
     let fit = gathering::fit(table, &link.outstanding, link.settings, link.flight);
-    let long = sizes::enough(link.settings, lent);
     checking::judged(long, sound & fit)
 }

@@ -6,7 +6,7 @@ pub mod rules;
 // The window in segments, the threshold up to which it grows by one segment a time, and the allowance in bytes (ikcp's cwnd, ssthresh
 // and incr).
 #[repr(C)]
-#[derive(Clone, Copy)]
+#[derive(Clone, Copy, Default)]
 pub struct Congestion {
     pub window: u32,
     pub threshold: u32,

@@ -11,7 +11,7 @@ use timing::{ProbeClock, RoundTrip};
 // The sending half's numbers: snd_una, snd_nxt, the round trip, the peer's last window, the congestion window, and how many are queued and
 // outstanding.
 #[repr(C)]
-#[derive(Clone, Copy)]
+#[derive(Clone, Copy, Default)]
 pub struct Flight {
     pub una: u32,
     pub next: u32,
@@ -24,7 +24,7 @@ pub struct Flight {
 
 // The receiving half's numbers: rcv_nxt, whether a tell is wanted, and how many are ready, waiting and noted as acks.
 #[repr(C)]
-#[derive(Clone, Copy)]
+#[derive(Clone, Copy, Default)]
 pub struct Arrival {
     pub expected: u32,
     pub tell: u8,
@@ -36,7 +36,7 @@ pub struct Arrival {
 // What flushes and updates move on: the probe clock, the time of the last of them, the next flush time, whether an ask is wanted,
 // whether the link is dead, and whether an update has been made.
 #[repr(C)]
-#[derive(Clone, Copy)]
+#[derive(Clone, Copy, Default)]
 pub struct Clock {
     pub probe: ProbeClock,
     pub current: u32,

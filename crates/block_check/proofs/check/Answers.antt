@@ -15,5 +15,4 @@ returns c =
       whole = padded_whole (take send_slots c.args.table.now) h.outstanding h.flight.outstanding;
       fits = c.fit-fit.ensures;
     } in
-    rw (← c.enough-long.ensures) (admitted h records _ _ c.enough-long.result c.sound-sound.result c.fit-fit.result c.judged.result
-    c.judged.ensures c.sound-sound.ensures flown)
+    admitted h records _ _ c.args.long c.sound-sound.result c.fit-fit.result c.judged.result c.judged.ensures c.sound-sound.ensures flown

@@ -1,16 +1,21 @@
--- `open` meets its contract: the checks of 12 and 7, then a link just opened.
+-- The checks of 12 and 7, then a link just opened.
 use Rattle.std.proofs.Common.{ap, not}
-use Rattle.open_core.proofs.Opens.{accepts, short, out_of_range}
+use Rattle.control.specs.Views.{arrays_of}
+use Rattle.open_core.proofs.Opens.{made_of, is_fresh_lem, accepts, short, out_of_range}
 use Rattle.open_core.proofs.open.Goals as goal
 
 pub returns-then-not-in_range : goal.returns-then-not-in_range
-returns-then-not-in_range c x = out_of_range _ _ _ _ c.in_range.ensures (ap not c.if-not-in_range.true)
+returns-then-not-in_range c = out_of_range _ _ _ _ c.in_range.ensures (ap not c.if-not-in_range.true)
 
-pub returns-then-enough : goal.returns-then-enough
-returns-then-enough c x = accepts c.args.new _ _ _
-    c.in_range.ensures _ c.enough.ensures (ap not c.if-not-in_range.false)
-    c.if-enough.true _ c.fresh.ensures x
+pub returns-then-not-enough : goal.returns-then-not-enough
+returns-then-not-enough c = short c.args.new _ _ _ c.in_range.ensures _ c.enough.ensures (ap not c.if-not-in_range.false) (ap not c.if-not-enough.true)
 
-pub returns-else-enough : goal.returns-else-enough
-returns-else-enough c x = short _ _ _ _ c.in_range.ensures _ c.enough.ensures (ap not c.if-not-in_range.false)
-    c.if-enough.false
+pub returns : goal.returns
+returns c =
+    let x = arrays_of c.args.link.now in
+    let f = c.default-2.ensures in
+    let r = c.default.ensures in
+    rw (made_of c.args.new x _ _ _ _ _ _ _ c.default-link.result c.default-link-2.result f.0 f.1.0 r.0 r.1.0 f.1.1.1.1.1.0 f.1.1.1.1.1.1 c.new.ensures c.default-link.ensures
+    c.default-link-2.ensures)
+    (accepts c.args.new _ c.args.link.now _ c.in_range.ensures _ c.enough.ensures (ap not c.if-not-in_range.false) (ap not c.if-not-enough.false)
+    _ (is_fresh_lem c.args.new x))
