@@ -19,9 +19,13 @@ use Rattle.control.specs.declared.Link.{Link}
 use Rattle.control.specs.Views.{is_set, Arrays, link_of, schedule_of, state_of, counted, counts_fit}
 use Rattle.flush_core.specs.declared.Flushed.{Flushed}
 use Rattle.flush_core.specs.declared.parts.Step.{Step}
-use Rattle.flush_core.specs.Parts.{Moved, Steps, current_of}
-use Rattle.flush_core.specs.Flushes.{unflushed_of, Wrote, Runs}
+use Rattle.flush_core.specs.Parts.{Moved, Steps}
+use Rattle.flush_core.specs.Flushes.{Wrote, Runs}
 use Rattle.std.specs.Prelude.{None, Ok}
+
+-- t is the current time
+abbrev pub current_of : Clock → ℕ → Clock
+current_of k t = record { probe = k.probe; current = t; next_flush = k.next_flush; ask = k.ask; dead = k.dead; updated = k.updated }
 
 module _ (c : Settings) (f : Flight) (a : Arrival) (k : Clock) (x : Arrays) (records : List Record) (acks : List ℕ)
     (t : ℕ) (pool out lengths : List ℕ) (s : Step) where
@@ -56,25 +60,31 @@ module _ (c : Settings) (f : Flight) (a : Arrival) (k : Clock) (x : Arrays) (rec
   unfolding state_of
   decided steps = steps.flushes
 
-  module _ (x' : Arrays) (records' : List Record) (out' lengths' : List ℕ) (r : Flushed) where
-    abbrev after : Link
-    after = link_of c r.flight r.arrival r.clock x'
+  pub flushed : (paced : Bool) → Steps paced k t c.interval s → s.flushes ≡ true
+      → (r : Flushed) (l' : Link) (records' : List Record) (out' lengths' : List ℕ)
+      → Wrote (link_of c f a s.clock x) records pool acks t out lengths r l' records' out' lengths'
+      → Runs paced block records pool acks t out lengths r l' records' out' lengths'
+  unfolding updating state_of
+  flushed false steps e r l' records' out' lengths' h =
+      let q = rw steps at h in (Ok (length (flushing before t pool).datagrams), q.0, q.1)
+  flushed true steps e r l' records' out' lengths' h =
+      let same : s.clock ≡ current_of s.clock k.current = ap (λ (y : Clock). current_of s.clock y.current) steps.is in
+      let q = rw (moved steps s.clock k.current same) at h in
+      rw (sym (decided steps) ∙ e) q
 
-    pub flushed : (paced : Bool) → Steps paced k t c.interval s → s.flushes ≡ true
-        → Wrote (link_of c f a s.clock x) records pool acks t out lengths r after records' out' lengths'
-        → Runs paced block records pool acks t out lengths r after records' out' lengths'
-    unfolding updating state_of
-    flushed false steps e h = let q = rw steps at h in (Ok (length (flushing before t pool).datagrams), q.0, q.1)
-    flushed true steps e h =
-        let same : s.clock ≡ current_of s.clock k.current = ap (λ (y : Clock). current_of s.clock y.current) steps.is in
-        let q = rw (moved steps s.clock k.current same) at h in
-        rw (sym (decided steps) ∙ e) q
-
-  pub waited : (paced : Bool) → Steps paced k t c.interval s → s.flushes ≡ false → counted f a ≡ true
-      → (k' : Clock) → k' ≡ current_of s.clock t → (r : Flushed) → r ≡ unflushed_of (Ok None) f a k' → (records' : List Record)
-      → Runs paced block records pool acks t out lengths r (link_of c r.flight r.arrival r.clock x) records' out lengths
+  pub waited : (paced : Bool) → Steps paced k t c.interval s → s.flushes ≡ false → counted f a ≡ true → (records' : List Record)
+      → Runs paced block records pool acks t out lengths (record { written = None; changed = 0 })
+      (link_of c f a (current_of s.clock t) x) records' out lengths
   unfolding updating counts_fit
-  waited false steps e n k' d r w records' = absurd (true≢false (sym (ap (λ (y : Step). y.flushes) steps) ∙ e))
-  waited true steps e n k' d r w records' =
-      rw (w, sym (decided steps) ∙ e)
-      (record { answer = refl; counts = n; state = moved steps k' t d; slots = refl; puts = refl; output = refl; sizes = refl })
+  waited false steps e n records' = absurd (true≢false (sym (ap (λ (y : Step). y.flushes) steps) ∙ e))
+  waited true steps e n records' =
+      rw (sym (decided steps) ∙ e)
+      (record {
+        answer = refl;
+        counts = n;
+        state = moved steps (current_of s.clock t) t refl;
+        slots = refl;
+        puts = refl;
+        output = refl;
+        sizes = refl;
+      })

@@ -4,6 +4,7 @@ use mathlib.Core.Path.{◌≡◌, ap}
 use mathlib.Core.Bool.{Bool, true, ◌&&◌}
 use mathlib.Core.List.{List}
 use Prim.Native.Nat.{ℕ, ◌+◌, ◌^◌, ◌≤◌, ◌<◌}
+use lib.ListN.{length}
 use native.Mathlib.Omega.{arith}
 use Rattle.protocol.specs.Protocol.{send_slots, send_window}
 use Rattle.protocol.specs.Serial.{plus, minus}
@@ -19,9 +20,8 @@ use Rattle.session.specs.IsValid.{SettingsInRange, settings_decide}
 use Rattle.session.specs.SendingValid.{sending_decides}
 use Rattle.session.specs.Flushing.{numbered_count}
 use Rattle.control.specs.declared.Flight.{Flight}
-use Rattle.control.specs.declared.Arrival.{Arrival}
-use Rattle.control.specs.declared.Clock.{Clock}
-use Rattle.control.specs.Views.{sending_of}
+use Rattle.control.specs.declared.Link.{Link}
+use Rattle.control.specs.Views.{Whole, arrays_of, sending_of}
 use Rattle.control.specs.ViewLaws.{Counts, counts}
 use Rattle.numbering.specs.Numbering.{Numberable, Numbers}
 use Rattle.transmit.specs.Writing.{Writable}
@@ -44,55 +44,54 @@ count_fits w s h k = omega arith
 flown_apart : (next una k : ℕ) → una < 2 ^ 32 → minus next una + k ≤ send_window → minus (plus next k) una ≤ send_window
 flown_apart next una k h e = omega arith
 
-module _ (c : Settings) (f : Flight) (a : Arrival) (queued outstanding transmissions : List ℕ) (records : List Record)
-    (pool acks out lengths : List ℕ)
-    (p : Flushable c f a queued outstanding transmissions records pool acks out lengths) where
-  range : SettingsInRange c
-  range = (settings_decide c).holds p.range
+module _ (l : Link) (whole : Whole (arrays_of l)) (records : List Record) (few : length records ≡ 32) (pool acks out lengths : List ℕ)
+    (p : Flushable l records pool acks out lengths) where
+  range : SettingsInRange l.settings
+  range = (settings_decide l.settings).holds p.range
 
-  fit : Counts f a
-  fit = counts f a p.counts
+  fit : Counts l.flight l.arrival
+  fit = counts l.flight l.arrival p.counts
 
   -- for its plan
-  pub few_ready : a.ready ≤ 128
+  pub few_ready : l.arrival.ready ≤ 128
   few_ready = fit.ready
 
   -- for numbering
-  pub numberable : (w : ℕ) → w ≡ window_in c f → Numberable f w queued outstanding transmissions records
+  pub numberable : (w : ℕ) → w ≡ window_in l.settings l.flight → Numberable l.flight w l.queued l.outstanding l.transmissions records
   numberable w e =
       record {
-        window_fits = rw e (used_most (controls_congestion c) f.window f.congestion.window);
-        queued_whole = p.queued_whole;
-        outstanding_whole = p.outstanding_whole;
-        transmissions_whole = p.transmissions_whole;
-        records_whole = p.records_whole;
+        window_fits = rw e (used_most (controls_congestion l.settings) l.flight.window l.flight.congestion.window);
+        queued_whole = whole.whole_queued;
+        outstanding_whole = whole.whole_outstanding;
+        transmissions_whole = whole.whole_transmissions;
+        records_whole = few;
         queued_fits = fit.queued;
         outstanding_fits = fit.outstanding;
-        numbers = numbers_fit_lem c _ p.sends;
+        numbers = numbers_fit_lem l.settings _ p.sends;
       }
 
   -- for the losses at its end
   pub countable : (w : ℕ) (n : Flight) (queued' outstanding' transmissions' : List ℕ) (records' : List Record)
-      → w ≡ window_in c f → f.una < 2 ^ 32
-      → Numbers f w queued outstanding transmissions records n queued' outstanding' transmissions' records'
-      → (fast late : Bool) → Countable (mss c) (losses_in c n w fast late)
+      → w ≡ window_in l.settings l.flight → l.flight.una < 2 ^ 32
+      → Numbers l.flight w l.queued l.outstanding l.transmissions records n queued' outstanding' transmissions' records'
+      → (fast late : Bool) → Countable (mss l.settings) (losses_in l.settings n w fast late)
   countable w n queued' outstanding' transmissions' records' e below d fast late =
-      let half = sending_of f queued outstanding transmissions records in
+      let half = sending_of l.flight l.queued l.outstanding l.transmissions records in
       let k = numbered_count w half in
-      let apart = ((sending_decides c half).holds p.sends).apart in
+      let apart = ((sending_decides l.settings half).holds p.sends).apart in
       let room = count_fits w half (numberable w e).window_fits apart in
       record {
         most = omega (arith, range.mtu_most_lem);
         inflight = rw (ap (λ (g : Flight). g.next) d.rest, ap (λ (g : Flight). g.una) d.rest)
-            (flown_apart f.next f.una k below room);
+            (flown_apart l.flight.next l.flight.una k below room);
       }
 
   -- for writing
-  pub writable : (k : Clock) (t w : ℕ) (plan : Plan) (n : Flight) (queued' outstanding' transmissions' : List ℕ) (records' : List Record)
-      → Plans c f a k t plan
-      → Numbers f w queued outstanding transmissions records n queued' outstanding' transmissions' records'
-      → Writable plan.flush a.acks acks outstanding' transmissions' records' n.outstanding pool out lengths
-  writable k t w plan n queued' outstanding' transmissions' records' g e =
+  pub writable : (t w : ℕ) (plan : Plan) (n : Flight) (queued' outstanding' transmissions' : List ℕ) (records' : List Record)
+      → Plans l.settings l.flight l.arrival l.clock t plan
+      → Numbers l.flight w l.queued l.outstanding l.transmissions records n queued' outstanding' transmissions' records'
+      → Writable plan.flush l.arrival.acks acks outstanding' transmissions' records' n.outstanding pool out lengths
+  writable t w plan n queued' outstanding' transmissions' records' g e =
       rw g.flush (record {
         sendable = record {
           mtu = omega (arith, range.mtu_least_lem);
@@ -100,7 +99,7 @@ module _ (c : Settings) (f : Flight) (a : Arrival) (queued outstanding transmiss
           wholes = e.sent.wholes;
           whole_records = e.sent.whole_records;
           count = e.sent.fits;
-          inside = rw e.sent.list (valid_inside c (sending_of f queued outstanding transmissions records) _ p.sends);
+          inside = rw e.sent.list (valid_inside l.settings (sending_of l.flight l.queued l.outstanding l.transmissions records) _ p.sends);
           slots = p.slots;
         };
         few = fit.acks;

@@ -143,8 +143,7 @@ module _ (c : Settings) (f : Flight) (a : Arrival) (k : Clock) (queued outstandi
           go false h = inr (rw h at e, idle before t pool (sym written.sends ∙ h))
 
       pub runs : (changed : ℕ) → changed ≡ cond w.told.sent f'.outstanding 0 → Wrote block records pool acks t out lengths
-          (record { answer = Ok (Some w.count); flight = f'; arrival = a'; clock = k'; changed = changed })
-          after records'' out' lengths'
+          (record { written = Some w.count; changed = changed }) after records'' out' lengths'
       runs changed e =
           let number = written.output.number ∙ length-map (flushing before t pool).datagrams bytes_of_segments in (
             ap (λ (n : ℕ). Ok (Some n)) number,

@@ -86,7 +86,3 @@ pub record Moved (k : Clock) (t interval : ℕ) (r : Step) : Type 0 where
 abbrev pub Steps : Bool → Clock → ℕ → ℕ → Step → Type 0
 Steps false k t interval r = r ≡ record { clock = k; flushes = true }
 Steps true k t interval r = Moved k t interval r
-
--- t is the current time
-abbrev pub current_of : Clock → ℕ → Clock
-current_of k t = record { probe = k.probe; current = t; next_flush = k.next_flush; ask = k.ask; dead = k.dead; updated = k.updated }

@@ -1,12 +1,12 @@
 // The parts of a flush and of an update: what they go by, and the numbers that they leave.
 ghost use Rattle.std.specs.Prelude.{◌≡◌, cond, ◌≤◌};
-ghost use Rattle.control.specs.Views.{is_set, schedule_of};
+ghost use Rattle.control.specs.Views.{schedule_of};
 ghost use Rattle.protocol.specs.Ranges.{mss};
 ghost use Rattle.congestion.specs.Congestions.{Countable};
-ghost use Rattle.flush_core.specs.Parts.{Plans, window_in, losses_in, with_losses, Moves, cleared_of, Steps, current_of};
+ghost use Rattle.flush_core.specs.Parts.{Plans, window_in, losses_in, with_losses, Moves, Steps};
 
 use congestion::{Losses, rules};
-use control::{Arrival, Clock, Flight};
+use control::{Clock, Flight, Link};
 use packing::Carried;
 use protocol::{Protocol, Settings, serial};
 use schedule::Schedule;
@@ -22,50 +22,29 @@ pub(crate) struct Plan {
     pub(crate) probe: ProbeClock,
 }
 
-// Whether a flag is set.
-fn is_set(flag: u8) -> bool
-    ensures { result ≡ is_set flag }
-{
-    flag != 0
-}
-
-// A flag that is set or not.
-fn flag(set: bool) -> u8
-    ensures { is_set result ≡ set }
-{
-    if set { 1 } else { 0 }
-}
-
-// What a flush at t goes by.
-pub(crate) fn plan_of(
-    settings: Settings,
-    flight: Flight,
-    arrival: Arrival,
-    clock: Clock,
-    t: u32,
-) -> Plan
-    requires { arrival.ready ≤ 128 }
-    ensures { Plans settings flight arrival clock t result }
-{
-    let free = Protocol::RECEIVE_WINDOW as usize - arrival.ready;
-    let carried = Carried {
-        conv: settings.conv,
-        wnd: free as u16,
-        una: arrival.expected,
-    };
-    let flush = Flush {
-        settings,
-        carried,
-        timeout: flight.rtt.timeout,
-        t,
-    };
-    let probed = clock.probe.next(t, flight.window);
-    let probe = probed.clock;
-    Plan {
-        flush,
-        ask: is_set(clock.ask) | probed.ask,
-        tell: is_set(arrival.tell),
-        probe,
+impl Plan {
+    // What a flush at t goes by.
+    pub(crate) fn new(link: &Link, t: u32) -> Plan
+        requires { link.now.arrival.ready ≤ 128 }
+        ensures { Plans link.now.settings link.now.flight link.now.arrival link.now.clock t result }
+    {
+        let free = Protocol::RECEIVE_WINDOW as usize - link.arrival.ready;
+        let probed = link.clock.probe.next(t, link.flight.window);
+        Plan {
+            flush: Flush {
+                settings: link.settings,
+                carried: Carried {
+                    conv: link.settings.conv,
+                    wnd: free as u16,
+                    una: link.arrival.expected,
+                },
+                timeout: link.flight.rtt.timeout,
+                t,
+            },
+            ask: (link.clock.ask != 0) | probed.ask,
+            tell: link.arrival.tell != 0,
+            probe: probed.clock,
+        }
     }
 }
 
@@ -73,8 +52,11 @@ pub(crate) fn plan_of(
 pub(crate) fn window_of(settings: Settings, flight: Flight) -> u32
     ensures { result ≡ window_in settings flight }
 {
-    let congestion = flight.congestion;
-    rules::used_window(settings.congestion == 1, flight.window, congestion.window)
+    rules::used_window(
+        settings.congestion == 1,
+        flight.window,
+        flight.congestion.window,
+    )
 }
 
 // The sending half's numbers at the end of a flush that used this window, with the congestion window after its losses.
@@ -88,7 +70,6 @@ pub(crate) fn after_losses(
     requires { Countable (mss settings) (losses_in settings flight window fast late) }
     ensures { result ≡ with_losses settings flight window fast late }
 {
-    let most = settings.mss();
     let losses = Losses {
         fast,
         late,
@@ -96,10 +77,10 @@ pub(crate) fn after_losses(
         inflight: serial::difference(flight.next, flight.una),
         used: window,
     };
-    let old = flight.congestion;
-    let mut after = flight;
-    after.congestion = old.after_flush(most as u32, losses);
-    after
+    Flight {
+        congestion: flight.congestion.after_flush(settings.mss() as u32, losses),
+        ..flight
+    }
 }
 
 // How many of n outstanding segments have records to be put back: none where none was sent.
@@ -116,23 +97,9 @@ pub(crate) fn moved(clock: Clock, probe: ProbeClock, dead: bool, t: u32) -> Cloc
     Clock {
         probe,
         current: t,
-        next_flush: clock.next_flush,
         ask: 0,
-        dead: flag(is_set(clock.dead) | dead),
-        updated: clock.updated,
-    }
-}
-
-// The receiving half's numbers after a flush: no acks are noted, and no tell is wanted.
-pub(crate) fn cleared(arrival: Arrival) -> Arrival
-    ensures { result ≡ cleared_of arrival }
-{
-    Arrival {
-        expected: arrival.expected,
-        tell: 0,
-        ready: arrival.ready,
-        waiting: arrival.waiting,
-        acks: 0,
+        dead: u8::from((clock.dead != 0) | dead),
+        ..clock
     }
 }
 
@@ -164,21 +131,12 @@ pub(crate) fn step_of(paced: bool, clock: Clock, t: u32, interval: u16) -> Step
         };
     }
     let updated = schedule_of(clock).update(t, interval);
-    let schedule = updated.schedule;
-    let mut moved = clock;
-    moved.next_flush = schedule.next;
-    moved.updated = flag(schedule.made);
     Step {
-        clock: moved,
+        clock: Clock {
+            next_flush: updated.schedule.next,
+            updated: u8::from(updated.schedule.made),
+            ..clock
+        },
         flushes: updated.flushes,
     }
-}
-
-// The clock with t as the current time.
-pub(crate) fn current(clock: Clock, t: u32) -> Clock
-    ensures { result ≡ current_of clock t }
-{
-    let mut next = clock;
-    next.current = t;
-    next
 }

@@ -1,31 +1,29 @@
 -- `flush_now`: what its parts give, put together.
-use borrow.Author.Rules.{rules}
-use Rattle.flush_core.proofs.Ready.{numberable, countable, writable}
+use Rattle.std.proofs.Common.{rules, refl}
+use Rattle.flush_core.proofs.Ready.{few_ready, numberable, countable, writable}
 use Rattle.flush_core.proofs.Results.{runs}
 use Rattle.flush_core.proofs.flush_now.Goals as goal
 
+pub new-plan-requires : goal.new-plan-requires
+new-plan-requires c = few_ready c.args.link.now (search rules) _ (search rules) _ _ _ _ c.requires
+
 pub number-flown-requires : goal.number-flown-requires
 number-flown-requires c =
-    numberable _ _ _ _ _ _ _ _ _ _ _ c.requires _ c.window_of-window.ensures
+    numberable c.args.link.now (search rules) _ (search rules) _ _ _ _ c.requires _ c.window_of-window.ensures
 
 pub write-written-requires : goal.write-written-requires
 write-written-requires c =
-    writable _ _ _ _ _ _ _ _ _ _ _ c.requires _ _ _ _ _ _ _ _ _ c.plan_of-plan.ensures c.number-flown.ensures
+    writable c.args.link.now (search rules) _ (search rules) _ _ _ _ c.requires _ _ _ _ _ _ _ _ c.new-plan.ensures c.number-flown.ensures
 
-pub after_losses-after-requires : goal.after_losses-after-requires
-after_losses-after-requires c =
-    countable _ _ _ _ _ _ _ _ _ _ _ c.requires _ _ _ _ _ _ c.window_of-window.ensures (search rules)
+pub after_losses-link-requires : goal.after_losses-link-requires
+after_losses-link-requires c =
+    countable c.args.link.now (search rules) _ (search rules) _ _ _ _ c.requires _ _ _ _ _ _ c.window_of-window.ensures (search rules)
     c.number-flown.ensures _ _
 
 pub returns : goal.returns
 returns c =
-    let a = c.args in (
-      λ ready waiting numbers whole.
-          runs a.settings a.flight a.arrival a.clock a.queued.now a.outstanding.now a.transmissions.now ready
-          waiting numbers a.records.now a.acks.now a.t
-          a.pool.now _ _ _ c.window_of-window.ensures _ _ _ _ _ _ _ _ _ _ _ c.plan_of-plan.ensures c.number-flown.ensures
-          c.write-written.ensures whole c.requires.counts
-          _ _ _ c.after_losses-after.ensures c.cleared-cleared.ensures c.moved-moved.ensures
-          _ c.changed.ensures,
-      c.write-written.ensures.sent.whole_records,
-    )
+    let h = c.args.link.now in
+    runs h.settings h.flight h.arrival h.clock h.queued h.outstanding h.transmissions h.ready h.waiting h.waiting_numbers
+    c.args.records.now c.args.acks.now c.args.t c.args.pool.now _ _ _ c.window_of-window.ensures _ _ _ _ _ _ _ _ _ _ _ c.new-plan.ensures
+    c.number-flown.ensures c.write-written.ensures (search rules) c.requires.counts _ _ _ c.after_losses-link.ensures refl
+    c.moved-link.ensures _ c.changed.ensures
