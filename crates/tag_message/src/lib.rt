@@ -1,4 +1,5 @@
-// A tag message: a name length 1 to 32, the name in bytes 33 to 126, a value length 0 to 64, the value, and then the end.
+// A tag message: a name length 1 to 32, the name in bytes 33 to 126, a value length 0 to 64, the value, and then the end. A name and a
+// value come as two slices, as the C interface lends them.
 #![tactic(auto)]
 
 ghost use Rattle.std.specs.Prelude.{◌≡◌, ◌+◌, ◌≤◌, ◌<◌, length, slice_index};
