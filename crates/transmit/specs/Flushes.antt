@@ -39,7 +39,7 @@ pub record FlushWrites (s : State) (t : ℕ) (words : List ℕ) (n : ℕ) (pool 
     (transmissions' : List ℕ) (records' : List Record) (out' lengths' : List ℕ) : Type 0 where
   pub output : Output (bytes_of_datagrams (flushing s t pool).datagrams) out lengths r.count out' lengths'
   pub sent : SentFront words transmissions' records' n (flushing s t pool).state.sending.outstanding
-  pub dead : (s.dead || r.dead) ≡ (flushing s t pool).state.dead
-  pub late : r.late ≡ (losses_at s t).late
-  pub fast : r.fast ≡ (losses_at s t).fast
-  pub sends : r.sent ≡ sends_at s t
+  pub dead : (s.dead || r.told.dead) ≡ (flushing s t pool).state.dead
+  pub late : r.told.late ≡ (losses_at s t).late
+  pub fast : r.told.fast ≡ (losses_at s t).fast
+  pub sends : r.told.sent ≡ sends_at s t
