@@ -60,10 +60,6 @@ module _ (s : Settings) (f : Flight) (a : Arrival) (k : Clock) where
       let g₃ = and_parts (counted f a) (in_range s) g₂.0 in
       record { counting = g₃.0; ranges = g₃.1; round = g₂.1; probing = g₁.1; congesting = g₀.1 }
 
-  -- the counts fit
-  pub counted_of : true ≡ numbers_fit s f a k → Counts f a
-  counted_of e = counts f a (numbers_of e).counting
-
 module _ (s : Settings) (f : Flight) (a : Arrival) (k : Clock) (x : Arrays) (rs : List Record) (whole : Whole x) (many : length rs ≡ 32)
     (below : a.expected < 2 ^ 32) where
   abbrev link : Link
