@@ -93,7 +93,16 @@ pub fn ampferweg_flush(
         (parts_of send_pool.now receive_pool.now table.new acks.now)
         (flush_parts_of output.new lengths.new)) result }
 {
-    let written = calls::flush(link, send_pool, receive_pool, table, acks, t, output, lengths);
+    let written = calls::flush(
+        link,
+        send_pool,
+        receive_pool,
+        table,
+        acks,
+        t,
+        output,
+        lengths,
+    );
     codes::count_code(written)
 }
 
@@ -114,7 +123,16 @@ pub fn ampferweg_update(
         (parts_of send_pool.now receive_pool.now table.new acks.now)
         (flush_parts_of output.new lengths.new)) result }
 {
-    let written = calls::update(link, send_pool, receive_pool, table, acks, t, output, lengths);
+    let written = calls::update(
+        link,
+        send_pool,
+        receive_pool,
+        table,
+        acks,
+        t,
+        output,
+        lengths,
+    );
     codes::update_code(written)
 }
 

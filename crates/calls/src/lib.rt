@@ -6,7 +6,7 @@ ghost use Rattle.std.specs.Prelude.{length};
 ghost use Rattle.promises.specs.Outcomes.{shows};
 ghost use Rattle.promises.specs.Parts.{parts_of, flush_parts_of};
 ghost use Rattle.promises.specs.Promises.{OpenPromise, SendPromise, InputPromise, FlushPromise, UpdatePromise, CheckPromise};
-ghost use Rattle.promises.specs.Promises.{ReadPromise, SizePromise, place_of};
+ghost use Rattle.promises.specs.Promises.{ReadPromise, SizePromise, ShowsPart, place_of};
 ghost use Rattle.read_core.specs.Places.{PlaceIs};
 ghost use Rattle.calls.specs.Written.{WrittenOut};
 
@@ -208,7 +208,17 @@ pub fn flush(
         (parts_of send_pool.now receive_pool.now table.new acks.now)
         (flush_parts_of output.new lengths.new) }
 {
-    match write(link, send_pool, receive_pool, table, acks, false, t, output, lengths) {
+    match write(
+        link,
+        send_pool,
+        receive_pool,
+        table,
+        acks,
+        false,
+        t,
+        output,
+        lengths,
+    ) {
         Ok(written) => Ok(written.unwrap_or(0)),
         Err(refusal) => Err(refusal),
     }
@@ -231,7 +241,17 @@ pub fn update(
         (parts_of send_pool.now receive_pool.now table.new acks.now)
         (flush_parts_of output.new lengths.new) }
 {
-    write(link, send_pool, receive_pool, table, acks, true, t, output, lengths)
+    write(
+        link,
+        send_pool,
+        receive_pool,
+        table,
+        acks,
+        true,
+        t,
+        output,
+        lengths,
+    )
 }
 
 // Naming the time at which the next update is wanted.
@@ -384,4 +404,20 @@ pub fn locate(
         receive_pool,
         acks,
     )
+}
+
+// The front segment's payload, the very part of the receive pool that holds it; an empty part where showing is refused.
+pub fn show<'a>(
+    link: &Link,
+    send_pool: &[u8],
+    receive_pool: &'a [u8],
+    table: &[Record],
+    acks: &[u32],
+) -> &'a [u8]
+    ensures { ShowsPart (shows link.now
+        (parts_of send_pool.now receive_pool.now table.now acks.now))
+        receive_pool.entry.ref_ptr receive_pool.now result.ref_ptr result.now }
+{
+    let place = locate(link, send_pool, receive_pool, table, acks);
+    read_core::part_at(receive_pool, place)
 }
