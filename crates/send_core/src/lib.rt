@@ -8,6 +8,7 @@ ghost use Rattle.send_core.specs.Sending.{Enqueues, SendLeaves};
 
 use answers::Answer;
 use control::{Arrival, Clock, Flight};
+use enqueue::Outgoing;
 use protocol::Settings;
 use sizes::Lengths;
 
@@ -32,26 +33,20 @@ fn send_checked(
     ensures { Enqueues stream mss flight queued.old marks.now pool.old message.now
         result queued.new pool.new }
 {
-    let sent = enqueue::enqueue(
+    let mut outgoing = Outgoing {
         stream,
         mss,
         queued,
-        flight.queued,
-        flight.outstanding,
+        count: flight.queued,
         marks,
         pool,
-        message,
-    );
-    match sent {
-        Ok(queued) => Submitted {
-            answer: Ok(()),
-            flight: Flight { queued, ..flight },
-        },
-        Err(refusal) => Submitted {
-            answer: Err(refusal),
-            flight,
-        },
-    }
+    };
+    let answer = outgoing.enqueue(flight.outstanding, message);
+    let flight = Flight {
+        queued: outgoing.count,
+        ..flight
+    };
+    Submitted { answer, flight }
 }
 
 // Sending checks 7, 13, then 10 and 11. `sound` tells whether the block is one that this link makes, `flown` whether the records of its
