@@ -1,6 +1,6 @@
 // What C calls: each function takes the block behind a pointer, and answers with a number, 0 or more where the call is done
-// and the refusal's number below zero where it is not; an update that is done and does not flush has a number of its own. Each gives what it
-// is given to a function of a crate below; of the table of records the first 128 are read and written.
+// and the refusal's number below zero where it is not; an update that is done and does not flush has a number of its own. Each tells the
+// answer of the call of its name in `calls`; of the table of records the first 128 are read and written.
 #![tactic(auto)]
 
 pub mod settings;
@@ -12,8 +12,8 @@ ghost use Rattle.codes.specs.Gives.{Gives};
 ghost use Rattle.results.specs.PlaceCodes.{place_code};
 ghost use Rattle.std.specs.Prelude.{◌≡◌};
 ghost use Rattle.archive.specs.Blocks.{block_size, version_number};
-ghost use Rattle.asks.specs.Places.{PlacePromise};
-ghost use Rattle.asks.specs.Times.{TimePromise};
+ghost use Rattle.results.specs.Places.{PlacePromise};
+ghost use Rattle.results.specs.Times.{TimePromise};
 
 use control::Link;
 use timing::Record;
@@ -38,20 +38,8 @@ pub fn ampferweg_open(
         a link.new
         (parts_of send_pool.now receive_pool.now table.now acks.now)) result }
 {
-    local_calls::open(
-        link,
-        conv,
-        mtu,
-        mode,
-        interval,
-        threshold,
-        stream,
-        congestion,
-        send_pool,
-        receive_pool,
-        table,
-        acks,
-    )
+    let new = codes::settings(conv, mtu, mode, interval, threshold, stream, congestion);
+    codes::answer_code(calls::open(link, new, send_pool, receive_pool, table, acks))
 }
 
 // Sending a message: 0, or the refusal.
@@ -68,7 +56,7 @@ pub fn ampferweg_send(
         a link.new
         (parts_of send_pool.new receive_pool.now table.now acks.now)) result }
 {
-    local_calls::send(link, send_pool, receive_pool, table, acks, message)
+    codes::answer_code(calls::send(link, send_pool, receive_pool, table, acks, message))
 }
 
 // Taking in a datagram: 0, or the refusal.
@@ -85,7 +73,7 @@ pub fn ampferweg_input(
         a link.new
         (parts_of send_pool.now receive_pool.new table.new acks.new)) result }
 {
-    take_in::take_in(link, send_pool, receive_pool, table, acks, datagram)
+    codes::answer_code(calls::input(link, send_pool, receive_pool, table, acks, datagram))
 }
 
 // A flush at time t: its datagrams, or the refusal.
@@ -105,18 +93,17 @@ pub fn ampferweg_flush(
         (parts_of send_pool.now receive_pool.now table.new acks.now)
         (flush_parts_of output.new lengths.new)) result }
 {
-    let paced = results::at_once();
-    write_out::write_out(
+    let written = calls::flush(
         link,
         send_pool,
         receive_pool,
         table,
         acks,
-        paced,
         t,
         output,
         lengths,
-    )
+    );
+    codes::count_code(written)
 }
 
 // An update at time t: the datagrams of its flush, the number of one that does not flush, or the refusal.
@@ -136,18 +123,17 @@ pub fn ampferweg_update(
         (parts_of send_pool.now receive_pool.now table.new acks.now)
         (flush_parts_of output.new lengths.new)) result }
 {
-    let paced = results::by_schedule();
-    write_out::write_out(
+    let written = calls::update(
         link,
         send_pool,
         receive_pool,
         table,
         acks,
-        paced,
         t,
         output,
         lengths,
-    )
+    );
+    codes::update_code(written)
 }
 
 // Naming the time at which the next update is wanted: it is stored, and 0 returned, or the refusal, and nothing is stored.
@@ -164,7 +150,8 @@ pub fn ampferweg_check(
         (parts_of send_pool.now receive_pool.now table.now acks.now) a
         when.old when.new) result }
 {
-    asks::check(link, send_pool, receive_pool, table, acks, t, when)
+    let time = calls::check(link, send_pool, receive_pool, table, acks, t);
+    codes::tell_time(time, when)
 }
 
 // Reading a message: its bytes, or the refusal.
@@ -182,7 +169,7 @@ pub fn ampferweg_read(
         (parts_of send_pool.now receive_pool.now table.now acks.now)
         buffer.new) result }
 {
-    local_calls::read(link, send_pool, receive_pool, table, acks, buffer)
+    codes::count_code(calls::read(link, send_pool, receive_pool, table, acks, buffer))
 }
 
 // Telling the size of the next message: its bytes, or the refusal.
@@ -196,7 +183,7 @@ pub fn ampferweg_size(
     ensures { Gives count_code (λ a. SizePromise link.now
         (parts_of send_pool.now receive_pool.now table.now acks.now) a) result }
 {
-    asks::size(link, send_pool, receive_pool, table, acks)
+    codes::count_code(calls::size(link, send_pool, receive_pool, table, acks))
 }
 
 // Where in the receive pool the front segment's payload lies: its start is stored, its bytes are counted; 0 and 0 where
@@ -212,7 +199,8 @@ pub fn ampferweg_show(
     ensures { Gives place_code (λ a. PlacePromise link.now
         (parts_of send_pool.now receive_pool.now table.now acks.now) a start.new) result }
 {
-    asks::show(link, send_pool, receive_pool, table, acks, start)
+    let place = calls::locate(link, send_pool, receive_pool, table, acks);
+    results::tell_place(place, start)
 }
 
 // The bytes of the control block that these functions have, for a host that compares them with its header's.

@@ -10,8 +10,8 @@ ghost use Rattle.codes.specs.Gives.{Gives};
 ghost use Rattle.results.specs.PlaceCodes.{place_code};
 ghost use Rattle.std.specs.Prelude.{◌≡◌};
 ghost use Rattle.archive.specs.Blocks.{block_size, version_number};
-ghost use Rattle.asks.specs.Places.{PlacePromise};
-ghost use Rattle.asks.specs.Times.{TimePromise};
+ghost use Rattle.results.specs.Places.{PlacePromise};
+ghost use Rattle.results.specs.Times.{TimePromise};
 
 use control::Link;
 use timing::Record;

@@ -24,7 +24,7 @@ use Rattle.codes.specs.Gives.{Gives}
 use Rattle.results.specs.PlaceCodes.{place_code}
 use Rattle.demands.specs.CountLaws.{OfResult, MessageFits, PlaceFits}
 use Rattle.demands.proofs.CountLaws.{flushes_few, reads_fit, tells_fit, shows_fit}
-use Rattle.asks.specs.Places.{PlacePromise}
+use Rattle.results.specs.Places.{PlacePromise}
 use Rattle.answers.specs.Answers.{Answer, Count}
 
 -- the very count of the result, or the refusal's number below zero

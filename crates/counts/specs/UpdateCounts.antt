@@ -18,7 +18,7 @@ use Rattle.codes.specs.Codes.{refusal_code, not_yet, update_code, time_code, tim
 use Rattle.codes.specs.Gives.{Gives}
 use Rattle.demands.specs.CountLaws.{OfResult, FewDatagrams}
 use Rattle.demands.proofs.CountLaws.{updates_few}
-use Rattle.asks.specs.Times.{TimePromise}
+use Rattle.results.specs.Times.{TimePromise}
 use Rattle.answers.specs.Answers.{Update, Time}
 
 -- the refusal's number below zero, the number of an update that does not flush, or the very count of its datagrams

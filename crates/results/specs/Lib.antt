@@ -1,1 +1,3 @@
 pub mod PlaceCodes
+pub mod Places
+pub mod Times

@@ -1,40 +1,13 @@
--- `size`: the block's arrays have their lengths, and what the core leaves is what the call promises.
-use mathlib.Core.Path.{◌≡◌, ap, ◌∙◌}
-use lib.ListN.{length, take}
+-- `size`: of the table the records that are lent.
+use mathlib.Core.Path.{◌≡◌}
 use borrow.Author.Rules.{rules}
+use lib.ListN.{length}
 use Rattle.lists.proofs.Loops.{length_mapped}
-use Rattle.promises.specs.Parts.{parts_of}
-use Rattle.from_cores.proofs.Asking.{size_promised}
-use Rattle.from_cores.proofs.Gathered.{Gathers, padded_whole}
-use Rattle.value_calls.proofs.Wholes.{whole_of, lent_length}
+use Rattle.value_calls.proofs.Front.{front}
 use Rattle.value_calls.proofs.size.Goals as goal
-
-pub size-requires : goal.size-requires
-size-requires c =
-    let a = c.args in (
-      whole_of a.link _ c.well_formed.0,
-      (
-        _,
-        record {
-          whole = ap length c.gather-records.ensures ∙ padded_whole (take 128 (take a.lent a.table)) a.link.outstanding
-              a.link.flight.outstanding;
-          fits = c.flight_fits-flown.ensures;
-        },
-      ),
-      (_, (_, c.marks_of-block.ensures)),
-    )
 
 pub returns : goal.returns
 returns c =
-    let a = c.args in
-    let p = parts_of a.send_pool.now a.receive_pool.now (take a.lent a.table) a.acks.now in
-    let whole : length a.table ≡ 128 = search (rules, length_mapped, c.well_formed.1.1.1.0) in
-    let len = lent_length a.table a.lent _ whole c.lent_count-n.ensures.0 in
-    let g : Gathers a.link p c.gather-records.result c.lent_count-n.result
-    = record { padding = c.gather-records.ensures; len = len } in
-    size_promised a.link p _ _ g _ (c.size.ensures _
-    (record {
-      whole = ap length c.gather-records.ensures ∙ padded_whole (take 128 (take a.lent a.table)) a.link.outstanding
-          a.link.flight.outstanding;
-      fits = c.flight_fits-flown.ensures;
-    }))
+    let t = c.args.table in
+    let whole : length t ≡ 128 = search (rules, length_mapped, c.well_formed.1.1.1.0) in
+    rw (front t c.args.lent _ whole c.min.ensures) c.size.ensures

@@ -1,0 +1,8 @@
+-- The number is that of the answer, which keeps the promise.
+use Rattle.std.proofs.Common.{◌∙◌}
+use Rattle.codes.specs.Codes.{count_code}
+use Rattle.codes.proofs.Told.{told, returned}
+use Rattle.ampferweg.proofs.ampferweg_size.Goals as goal
+
+pub returns : goal.returns
+returns c = told count_code _ c.size.result (returned c.count_code.type_inv ∙ c.count_code.ensures) c.size.ensures

@@ -1,0 +1,423 @@
+// The public calls over the block behind a pointer: each answers with its promise. The block is checked where it stands; the records of the
+// outstanding segments are gathered from the lent table, or looked at there, and put back; the block's lists are changed in place.
+#![tactic(auto)]
+
+ghost use Rattle.std.specs.Prelude.{length};
+ghost use Rattle.promises.specs.Outcomes.{shows};
+ghost use Rattle.promises.specs.Parts.{parts_of, flush_parts_of};
+ghost use Rattle.promises.specs.Promises.{OpenPromise, SendPromise, InputPromise, FlushPromise, UpdatePromise, CheckPromise};
+ghost use Rattle.promises.specs.Promises.{ReadPromise, SizePromise, ShowsPart, place_of};
+ghost use Rattle.read_core.specs.Places.{PlaceIs};
+ghost use Rattle.calls.specs.Written.{WrittenOut};
+
+use answers::Answer;
+use control::Link;
+use protocol::Settings;
+use read_core::Place;
+use timing::Record;
+
+// Opening with these settings; refused, the old block stays.
+pub fn open(
+    link: &mut Link,
+    new: Settings,
+    send_pool: &[u8],
+    receive_pool: &[u8],
+    table: &[Record],
+    acks: &[u32],
+) -> Answer<()>
+    ensures { OpenPromise new link.old
+        (parts_of send_pool.now receive_pool.now table.now acks.now)
+        result link.new
+        (parts_of send_pool.now receive_pool.now table.now acks.now) }
+{
+    let opened = open_core::open(
+        new,
+        link.settings,
+        link.flight,
+        link.arrival,
+        link.clock,
+        table.len(),
+        send_pool,
+        receive_pool,
+        acks,
+    );
+    link.settings = opened.settings;
+    link.flight = opened.flight;
+    link.arrival = opened.arrival;
+    link.clock = opened.clock;
+    opened.answer
+}
+
+// Sending a message.
+pub fn send(
+    link: &mut Link,
+    send_pool: &mut [u8],
+    receive_pool: &[u8],
+    table: &[Record],
+    acks: &[u32],
+    message: &[u8],
+) -> Answer<()>
+    ensures { SendPromise message.now link.old
+        (parts_of send_pool.old receive_pool.now table.now acks.now)
+        result link.new
+        (parts_of send_pool.new receive_pool.now table.now acks.now) }
+{
+    let mut send_marks = [0; 128];
+    let mut receive_marks = [0; 256];
+    let sound = block_check::sound(link, &mut send_marks, &mut receive_marks);
+    let flown = gathering::fit(table, &link.outstanding, link.settings, link.flight);
+    let submitted = send_core::send(
+        link.settings,
+        link.flight,
+        link.arrival,
+        link.clock,
+        sound,
+        flown,
+        table.len(),
+        &mut link.queued,
+        &link.outstanding,
+        &link.transmissions,
+        &link.ready,
+        &link.waiting,
+        &link.waiting_numbers,
+        &send_marks,
+        send_pool,
+        receive_pool,
+        acks,
+        message,
+    );
+    link.flight = submitted.flight;
+    submitted.answer
+}
+
+// Taking in a datagram.
+pub fn input(
+    link: &mut Link,
+    send_pool: &[u8],
+    receive_pool: &mut [u8],
+    table: &mut [Record],
+    acks: &mut [u32],
+    datagram: &[u8],
+) -> Answer<()>
+    ensures { InputPromise datagram.now link.old
+        (parts_of send_pool.now receive_pool.old table.old acks.old)
+        result link.new
+        (parts_of send_pool.now receive_pool.new table.new acks.new) }
+{
+    let mut send_marks = [0; 128];
+    let mut receive_marks = [0; 256];
+    let sound = block_check::sound(link, &mut send_marks, &mut receive_marks);
+    let n = link.flight.outstanding;
+    let mut records = records::none();
+    gathering::gather(table, &link.outstanding, n, &mut records);
+    let taken = input_core::input(
+        link.settings,
+        link.flight,
+        link.arrival,
+        link.clock,
+        sound,
+        &mut records,
+        table.len(),
+        &link.queued,
+        &mut link.outstanding,
+        &mut link.transmissions,
+        &mut link.ready,
+        &mut link.waiting,
+        &mut link.waiting_numbers,
+        &receive_marks,
+        send_pool,
+        receive_pool,
+        acks,
+        datagram,
+    );
+    lending::whole(link);
+    link.flight = taken.flight;
+    link.arrival = taken.arrival;
+    gathering::scatter(table, &link.outstanding, taken.changed, &records);
+    taken.answer
+}
+
+// A flush, or where it is paced an update.
+fn write(
+    link: &mut Link,
+    send_pool: &[u8],
+    receive_pool: &[u8],
+    table: &mut [Record],
+    acks: &[u32],
+    paced: bool,
+    t: u32,
+    output: &mut [u8],
+    lengths: &mut [u16],
+) -> Answer<Option<usize>>
+    ensures { WrittenOut paced t link.old
+        (parts_of send_pool.now receive_pool.now table.old acks.now)
+        (flush_parts_of output.old lengths.old) result link.new
+        (parts_of send_pool.now receive_pool.now table.new acks.now)
+        (flush_parts_of output.new lengths.new) }
+{
+    let mut send_marks = [0; 128];
+    let mut receive_marks = [0; 256];
+    let sound = block_check::sound(link, &mut send_marks, &mut receive_marks);
+    let n = link.flight.outstanding;
+    let mut records = records::none();
+    gathering::gather(table, &link.outstanding, n, &mut records);
+    let flushed = flush_core::flush(
+        link.settings,
+        link.flight,
+        link.arrival,
+        link.clock,
+        sound,
+        &mut records,
+        table.len(),
+        paced,
+        &mut link.queued,
+        &mut link.outstanding,
+        &mut link.transmissions,
+        &link.ready,
+        &link.waiting,
+        &link.waiting_numbers,
+        send_pool,
+        receive_pool,
+        acks,
+        t,
+        output,
+        lengths,
+    );
+    lending::whole(link);
+    link.flight = flushed.flight;
+    link.arrival = flushed.arrival;
+    link.clock = flushed.clock;
+    gathering::scatter(table, &link.outstanding, flushed.changed, &records);
+    flushed.answer
+}
+
+// A flush at time t: how many datagrams it wrote.
+pub fn flush(
+    link: &mut Link,
+    send_pool: &[u8],
+    receive_pool: &[u8],
+    table: &mut [Record],
+    acks: &[u32],
+    t: u32,
+    output: &mut [u8],
+    lengths: &mut [u16],
+) -> Answer<usize>
+    ensures { FlushPromise t link.old
+        (parts_of send_pool.now receive_pool.now table.old acks.now)
+        (flush_parts_of output.old lengths.old) result link.new
+        (parts_of send_pool.now receive_pool.now table.new acks.now)
+        (flush_parts_of output.new lengths.new) }
+{
+    match write(
+        link,
+        send_pool,
+        receive_pool,
+        table,
+        acks,
+        false,
+        t,
+        output,
+        lengths,
+    ) {
+        Ok(written) => Ok(written.unwrap_or(0)),
+        Err(refusal) => Err(refusal),
+    }
+}
+
+// An update at time t: how many datagrams its flush wrote, if it flushed.
+pub fn update(
+    link: &mut Link,
+    send_pool: &[u8],
+    receive_pool: &[u8],
+    table: &mut [Record],
+    acks: &[u32],
+    t: u32,
+    output: &mut [u8],
+    lengths: &mut [u16],
+) -> Answer<Option<usize>>
+    ensures { UpdatePromise t link.old
+        (parts_of send_pool.now receive_pool.now table.old acks.now)
+        (flush_parts_of output.old lengths.old) result link.new
+        (parts_of send_pool.now receive_pool.now table.new acks.now)
+        (flush_parts_of output.new lengths.new) }
+{
+    write(
+        link,
+        send_pool,
+        receive_pool,
+        table,
+        acks,
+        true,
+        t,
+        output,
+        lengths,
+    )
+}
+
+// Naming the time at which the next update is wanted.
+pub fn check(
+    link: &Link,
+    send_pool: &[u8],
+    receive_pool: &[u8],
+    table: &[Record],
+    acks: &[u32],
+    t: u32,
+) -> Answer<u32>
+    ensures { CheckPromise t link.now
+        (parts_of send_pool.now receive_pool.now table.now acks.now) result }
+{
+    let mut send_marks = [0; 128];
+    let mut receive_marks = [0; 256];
+    let sound = block_check::sound(link, &mut send_marks, &mut receive_marks);
+    let n = link.flight.outstanding;
+    let mut records = records::none();
+    gathering::gather(table, &link.outstanding, n, &mut records);
+    check_core::check(
+        link.settings,
+        link.flight,
+        link.arrival,
+        link.clock,
+        sound,
+        &records,
+        table.len(),
+        &link.queued,
+        &link.outstanding,
+        &link.transmissions,
+        &link.ready,
+        &link.waiting,
+        &link.waiting_numbers,
+        send_pool,
+        receive_pool,
+        acks,
+        t,
+    )
+}
+
+// Reading a message: how many bytes it has.
+pub fn read(
+    link: &mut Link,
+    send_pool: &[u8],
+    receive_pool: &[u8],
+    table: &[Record],
+    acks: &[u32],
+    buffer: &mut [u8],
+) -> Answer<usize>
+    ensures { ReadPromise link.old
+        (parts_of send_pool.now receive_pool.now table.now acks.now)
+        buffer.old result link.new
+        (parts_of send_pool.now receive_pool.now table.now acks.now)
+        buffer.new }
+{
+    let mut send_marks = [0; 128];
+    let mut receive_marks = [0; 256];
+    let sound = block_check::sound(link, &mut send_marks, &mut receive_marks);
+    let flown = gathering::fit(table, &link.outstanding, link.settings, link.flight);
+    let delivered = read_core::read(
+        link.settings,
+        link.flight,
+        link.arrival,
+        link.clock,
+        sound,
+        flown,
+        table.len(),
+        &link.queued,
+        &link.outstanding,
+        &link.transmissions,
+        &mut link.ready,
+        &mut link.waiting,
+        &mut link.waiting_numbers,
+        send_pool,
+        receive_pool,
+        acks,
+        buffer,
+    );
+    link.arrival = delivered.arrival;
+    delivered.answer
+}
+
+// Telling the size of the next message.
+pub fn size(
+    link: &Link,
+    send_pool: &[u8],
+    receive_pool: &[u8],
+    table: &[Record],
+    acks: &[u32],
+) -> Answer<usize>
+    ensures { SizePromise link.now
+        (parts_of send_pool.now receive_pool.now table.now acks.now) result }
+{
+    let mut send_marks = [0; 128];
+    let mut receive_marks = [0; 256];
+    let sound = block_check::sound(link, &mut send_marks, &mut receive_marks);
+    let flown = gathering::fit(table, &link.outstanding, link.settings, link.flight);
+    read_core::size(
+        link.settings,
+        link.flight,
+        link.arrival,
+        link.clock,
+        sound,
+        flown,
+        table.len(),
+        &link.queued,
+        &link.outstanding,
+        &link.transmissions,
+        &link.ready,
+        &link.waiting,
+        &link.waiting_numbers,
+        send_pool,
+        receive_pool,
+        acks,
+    )
+}
+
+// Where in the receive pool the front segment's payload lies; 0 and 0 where showing is refused.
+pub fn locate(
+    link: &Link,
+    send_pool: &[u8],
+    receive_pool: &[u8],
+    table: &[Record],
+    acks: &[u32],
+) -> Place
+    ensures { PlaceIs (place_of (shows link.now
+        (parts_of send_pool.now receive_pool.now table.now acks.now)))
+        (length receive_pool.now) result }
+{
+    let mut send_marks = [0; 128];
+    let mut receive_marks = [0; 256];
+    let sound = block_check::sound(link, &mut send_marks, &mut receive_marks);
+    let flown = gathering::fit(table, &link.outstanding, link.settings, link.flight);
+    read_core::locate(
+        link.settings,
+        link.flight,
+        link.arrival,
+        link.clock,
+        sound,
+        flown,
+        table.len(),
+        &link.queued,
+        &link.outstanding,
+        &link.transmissions,
+        &link.ready,
+        &link.waiting,
+        &link.waiting_numbers,
+        send_pool,
+        receive_pool,
+        acks,
+    )
+}
+
+// The front segment's payload, the very part of the receive pool that holds it; an empty part where showing is refused.
+pub fn show<'a>(
+    link: &Link,
+    send_pool: &[u8],
+    receive_pool: &'a [u8],
+    table: &[Record],
+    acks: &[u32],
+) -> &'a [u8]
+    ensures { ShowsPart (shows link.now
+        (parts_of send_pool.now receive_pool.now table.now acks.now))
+        receive_pool.entry.ref_ptr receive_pool.now result.ref_ptr result.now }
+{
+    let place = locate(link, send_pool, receive_pool, table, acks);
+    read_core::part_at(receive_pool, place)
+}
