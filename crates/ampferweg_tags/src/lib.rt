@@ -6,12 +6,11 @@ ghost use Rattle.codes.specs.Codes.{number_code};
 ghost use Rattle.tag_message.specs.Tags.{number_of};
 ghost use Rattle.tag_message.specs.Messages.{read_from};
 ghost use Rattle.tag_find.specs.Findings.{find_in, found_by};
-ghost use Rattle.ampferweg_tags.specs.TagCodes.{changing_code, presence_code, TellsWriting, Stores};
+ghost use Rattle.ampferweg_tags.specs.TagCodes.{presence_code, TellsWriting, Stores};
 ghost use Rattle.ampferweg_tags.specs.TagCodes.{TellsSet, TellsTake, TellsRemove, TellsPlace};
 
-use tag_find::{Finding, Presence};
-use tag_message::{Reading, TagRefusal, Writing};
-use tag_table::Changing;
+use tag_find::{Part, Place};
+use tag_message::TagRefusal;
 
 fn refusal_code(refusal: TagRefusal) -> i32
     ensures { result ≡ number_code (number_of refusal) }
@@ -19,34 +18,13 @@ fn refusal_code(refusal: TagRefusal) -> i32
     codes::number_code(refusal.number())
 }
 
-// 0, or the refusal.
-fn changing_code(changing: Changing) -> i32
-    ensures { result ≡ changing_code changing }
-{
-    match changing {
-        Changing::Done => 0,
-        Changing::Refused(refusal) => refusal_code(refusal),
-    }
-}
-
-// 1, 0, or the refusal.
-fn presence_code(presence: Presence) -> i32
-    ensures { result ≡ presence_code presence }
-{
-    match presence {
-        Presence::Found => 1,
-        Presence::Missing => 0,
-        Presence::Refused(refusal) => refusal_code(refusal),
-    }
-}
-
 // Writes the message of a name and a value at the start of a part: its length, or the refusal.
 pub fn ampferweg_tag_write(name: &[u8], value: &[u8], message: &mut [u8]) -> i32
     ensures { TellsWriting name.now value.now message.old result message.new }
 {
     match tag_message::write(name, value, message) {
-        Writing::Written(len) => len as i32,
-        Writing::Refused(refusal) => refusal_code(refusal),
+        Ok(len) => len as i32,
+        Err(refusal) => refusal_code(refusal),
     }
 }
 
@@ -56,12 +34,12 @@ pub fn ampferweg_tag_read(message: &[u8], name_len: &mut usize, value_len: &mut 
         name_len.old value_len.old name_len.new value_len.new }
 {
     match tag_message::read(message) {
-        Reading::Tag { name, value } => {
-            *name_len = name;
-            *value_len = value;
+        Ok(tag) => {
+            *name_len = tag.name;
+            *value_len = tag.value;
             0
         }
-        Reading::Refused(refusal) => refusal_code(refusal),
+        Err(refusal) => refusal_code(refusal),
     }
 }
 
@@ -69,24 +47,21 @@ pub fn ampferweg_tag_read(message: &[u8], name_len: &mut usize, value_len: &mut 
 pub fn ampferweg_tag_set(table: &mut [u8], name: &[u8], value: &[u8]) -> i32
     ensures { TellsSet name.now value.now table.old result table.new }
 {
-    let changing = tag_table::set(table, name, value);
-    changing_code(changing)
+    tag_table::set(table, name, value).map_or_else(refusal_code, |()| 0)
 }
 
 // Reads a message and sets its tag: 0, or the refusal.
 pub fn ampferweg_tag_take(table: &mut [u8], message: &[u8]) -> i32
     ensures { TellsTake message.now table.old result table.new }
 {
-    let changing = tag_table::take(table, message);
-    changing_code(changing)
+    tag_table::take(table, message).map_or_else(refusal_code, |()| 0)
 }
 
 // Removes a name: 0, or the refusal.
 pub fn ampferweg_tag_remove(table: &mut [u8], name: &[u8]) -> i32
     ensures { TellsRemove name.now table.old result table.new }
 {
-    let changing = tag_table::remove(table, name);
-    changing_code(changing)
+    tag_table::remove(table, name).map_or_else(refusal_code, |()| 0)
 }
 
 // Where the value of a name is: 0 for the own table, 1 for the defaults, and start and length of the part; 0 and an empty part
@@ -101,34 +76,19 @@ pub fn ampferweg_tag_ask(
     ensures { TellsPlace (find_in own.now defaults.now name.now) result start.new
         len.new }
 {
-    match tag_find::find(own, defaults, name) {
-        Finding::Own(part) => {
-            *start = part.start;
-            *len = part.len;
-            0
-        }
-        Finding::Defaults(part) => {
-            *start = part.start;
-            *len = part.len;
-            1
-        }
-        Finding::Missing => {
-            *start = 0;
-            *len = 0;
-            0
-        }
-        Finding::Refused(_) => {
-            *start = 0;
-            *len = 0;
-            0
-        }
-    }
+    let (table, part) = match tag_find::find(own, defaults, name) {
+        Ok(Some(Place::Own(part))) => (0, part),
+        Ok(Some(Place::Defaults(part))) => (1, part),
+        Ok(None) | Err(_) => (0, Part { start: 0, len: 0 }),
+    };
+    *start = part.start;
+    *len = part.len;
+    table
 }
 
 // Whether a name is found: 1, 0, or the refusal.
 pub fn ampferweg_tag_found(own: &[u8], defaults: &[u8], name: &[u8]) -> i32
     ensures { result ≡ presence_code (found_by (find_in own.now defaults.now name.now)) }
 {
-    let presence = tag_find::found(own, defaults, name);
-    presence_code(presence)
+    tag_find::found(own, defaults, name).map_or_else(refusal_code, |found| i32::from(found))
 }

@@ -2,9 +2,8 @@
 -- Assumes nothing.
 use Rattle.std.specs.Prelude.{◌≡◌, List, map, ℕ, ◌≤◌, length}
 use Rattle.lists.specs.declared.Held.{Held}
-use Rattle.lists.specs.declared.HeldList.{HeldList}
+use Rattle.lists.specs.declared.Listed.{Listed}
 use Rattle.lists.specs.declared.Waiting.{Waiting}
-use Rattle.lists.specs.declared.WaitingList.{WaitingList}
 use Rattle.lists.specs.declared.Receiving as lists
 use Rattle.lists.specs.Receiving as receiving
 use Rattle.session.specs.State.{Ack}
@@ -15,10 +14,10 @@ use Rattle.control.specs.declared.Arrival.{Arrival}
 use Rattle.arriving.specs.declared.Incoming.{Incoming}
 
 -- the lists that the arrays hold
-abbrev pub ready_list : List ℕ → ℕ → HeldList
+abbrev pub ready_list : List ℕ → ℕ → Listed Held 128
 ready_list words n = record { at = map unpack words; count = n }
 
-abbrev pub waiting_list : List ℕ → List ℕ → ℕ → WaitingList
+abbrev pub waiting_list : List ℕ → List ℕ → ℕ → Listed Waiting 128
 waiting_list words numbers n = record { at = paired waiting_at words numbers; count = n }
 
 abbrev pub lists_of : Arrival → List ℕ → List ℕ → List ℕ → lists.Receiving

@@ -12,15 +12,6 @@ use Rattle.lists.specs.declared.Held.{Held}
 use Rattle.words.specs.Words.{unpack, paired}
 use Rattle.bench.specs.Fields.{settings_of, held_fields, stored_in, HasField, changed}
 
--- a number that is not the least that it may be
-pub past : (n k : ℕ) → k ≤ n → (n ≡ k → ⊥) → suc k ≤ n
-past n k h d = omega arith
-
--- the settings come first
-pub settings_first : (s t : Settings) (behind : List ℕ) (field v : ℕ) → field < 5 → settings_of t ≡ set (settings_of s) field v → settings_of t
-    ++ behind ≡ set (settings_of s ++ behind) field v
-settings_first s t behind field v h e = ap (λ (l : List ℕ). l ++ behind) e ∙ sym (set-append_left (settings_of s) behind field v h)
-
 -- a field of the first three, of four
 first_three : (a b : Held) (n field v : ℕ) → field < 3 → held_fields b ≡ set (held_fields a) field v → held_fields b
     ++ (n ∷ []) ≡ set (held_fields a ++ (n ∷ [])) field v

@@ -38,55 +38,48 @@ const ALL: usize = 4294967295;
 
 // A block before any opening.
 fn blank() -> Link {
-    let settings = Settings {
-        conv: 0,
-        mtu: 0,
-        interval: 0,
-        mode: 0,
-        threshold: 0,
-        stream: 0,
-        congestion: 0,
-    };
-    let rtt = RoundTrip {
-        smoothed: 0,
-        variation: 0,
-        timeout: 0,
-    };
-    let congestion = Congestion {
-        window: 0,
-        threshold: 0,
-        allowance: 0,
-    };
-    let flight = Flight {
-        una: 0,
-        next: 0,
-        rtt,
-        window: 0,
-        congestion,
-        queued: 0,
-        outstanding: 0,
-    };
-    let arrival = Arrival {
-        expected: 0,
-        tell: 0,
-        ready: 0,
-        waiting: 0,
-        acks: 0,
-    };
-    let probe = ProbeClock { wait: 0, due: 0 };
-    let clock = Clock {
-        probe,
-        current: 0,
-        next_flush: 0,
-        ask: 0,
-        dead: 0,
-        updated: 0,
-    };
     Link {
-        settings,
-        flight,
-        arrival,
-        clock,
+        settings: Settings {
+            conv: 0,
+            mtu: 0,
+            interval: 0,
+            mode: 0,
+            threshold: 0,
+            stream: 0,
+            congestion: 0,
+        },
+        flight: Flight {
+            una: 0,
+            next: 0,
+            rtt: RoundTrip {
+                smoothed: 0,
+                variation: 0,
+                timeout: 0,
+            },
+            window: 0,
+            congestion: Congestion {
+                window: 0,
+                threshold: 0,
+                allowance: 0,
+            },
+            queued: 0,
+            outstanding: 0,
+        },
+        arrival: Arrival {
+            expected: 0,
+            tell: 0,
+            ready: 0,
+            waiting: 0,
+            acks: 0,
+        },
+        clock: Clock {
+            probe: ProbeClock { wait: 0, due: 0 },
+            current: 0,
+            next_flush: 0,
+            ask: 0,
+            dead: 0,
+            updated: 0,
+        },
         queued: [0; 128],
         outstanding: [0; 32],
         transmissions: [0; 32],
@@ -107,19 +100,17 @@ impl Bench {
             timeout: 0,
             skips: 0,
         };
-        let lent = Lent {
-            send: ALL,
-            receive: ALL,
-            records: ALL,
-            acks: ALL,
-            output: ALL,
-            lengths: ALL,
-        };
-        let link = blank();
         Bench {
-            link,
+            link: blank(),
             table: [record; 128],
-            lent,
+            lent: Lent {
+                send: ALL,
+                receive: ALL,
+                records: ALL,
+                acks: ALL,
+                output: ALL,
+                lengths: ALL,
+            },
             opened: false,
             fresh: false,
         }
@@ -129,68 +120,69 @@ impl Bench {
     pub fn with_link(self, link: Link) -> Bench
         ensures { result ≡ record { link = link; table = self.table; lent = self.lent; opened = self.opened; fresh = false } }
     {
-        let mut next = self;
-        next.link = link;
-        next.fresh = false;
-        next
+        Bench {
+            link,
+            fresh: false,
+            ..self
+        }
     }
 
     // With another link and another table.
     pub fn with_table(self, link: Link, table: [Record; 128]) -> Bench
         ensures { result ≡ record { link = link; table = table; lent = self.lent; opened = self.opened; fresh = false } }
     {
-        let mut next = self.with_link(link);
-        next.table = table;
-        next
+        Bench {
+            link,
+            table,
+            fresh: false,
+            ..self
+        }
     }
 
     // Just opened.
     pub fn with_opened(self, link: Link) -> Bench
         ensures { result ≡ record { link = link; table = self.table; lent = self.lent; opened = true; fresh = true } }
     {
-        let mut next = self;
-        next.link = link;
-        next.opened = true;
-        next.fresh = true;
-        next
+        Bench {
+            link,
+            opened: true,
+            fresh: true,
+            ..self
+        }
     }
 }
 
 // The counts with another one for a part: 0 send pool, 1 receive pool, 2 records, 3 ack list, 4 output, 5 lengths.
-pub fn lend(lent: Lent, part: u32, count: u32) -> Lent
+pub fn lend(mut lent: Lent, part: u32, count: u32) -> Lent
     ensures { part ≤ 5 → counts_of result ≡ set (counts_of lent) part count }
 {
     let n = count as usize;
-    let mut next = lent;
     match part {
-        0 => next.send = n,
-        1 => next.receive = n,
-        2 => next.records = n,
-        3 => next.acks = n,
-        4 => next.output = n,
-        _ => next.lengths = n,
+        0 => lent.send = n,
+        1 => lent.receive = n,
+        2 => lent.records = n,
+        3 => lent.acks = n,
+        4 => lent.output = n,
+        _ => lent.lengths = n,
     }
-    next
+    lent
 }
 
 // A link just opened with other numbers: snd_una and snd_nxt, and rcv_nxt.
-pub fn jump(link: Link, snd: u32, rcv: u32) -> Link
+pub fn jump(mut link: Link, snd: u32, rcv: u32) -> Link
     ensures { Jumped link snd rcv result }
 {
-    let mut next = link;
-    next.flight.una = snd;
-    next.flight.next = snd;
-    next.arrival.expected = rcv;
-    next
+    link.flight.una = snd;
+    link.flight.next = snd;
+    link.arrival.expected = rcv;
+    link
 }
 
-// The table with another record at a slot.
-pub fn replace(table: [Record; 128], slot: u32, updated: Record) -> [Record; 128]
-    ensures { result ≡ set table slot updated }
+// Another item at an index; nothing past the end.
+pub fn replace<T: Copy>(list: &mut [T], i: usize, item: T)
+    ensures { list.new ≡ set list.old i item }
 {
-    let mut next = table;
-    if slot < 128 {
-        next[slot as usize] = updated;
+    if i < list.len() {
+        list[i] = item;
     }
-    next
 }

@@ -3,6 +3,9 @@
 use mathlib.Core.Path.{◌≡◌, refl, sym, ap, ◌∙◌}
 use mathlib.Core.Bool.{Bool, true, false, not, ◌&&◌, ◌||◌, and-true, and-false, and_assoc, false≢true}
 use mathlib.Core.List.{List, ◌∷◌}
+use Rattle.std.specs.Prelude.{Some, None}
+use Rattle.std.specs.declared.option.Option.{Option}
+use mathlib.Core.Bool.{cond}
 use Prim.Native.Nat.{ℕ, suc, ◌+◌, ◌-◌, ◌%◌, ◌^◌, ◌≤◌, ◌<◌, min}
 use native.Mathlib.Decide.{dec_lt}
 use native.Mathlib.Omega.{arith}
@@ -20,7 +23,7 @@ use Rattle.marks.specs.Marks.{none_of, none, none_to_send, marked_all}
 use Rattle.checking.specs.Tests.{
   follows,
   neighbours,
-  record_fits,
+  fits_after,
   least_after,
   least_after_all,
   word_fits,
@@ -83,47 +86,36 @@ follows_test a b d e h ed ee = let q : a % 2 ^ 32 ≡ a = omega arith in rw (q, 
     go (no s) t = rw (le-ltb e 127 (omega arith), lt-leb 1 d (omega arith)) refl
 
 -- records; what is carried
-module _ (mode una next : ℕ) (rs : List Record) (n i goal least : ℕ) (inv : goal ≡ least_after_all mode una next least (drop i (take n rs)))
-  where
-    pub least_next : (d : Record) (k : ℕ) → i < n → n ≤ length rs → k ≡ least_after mode una next least (get_or rs i d)
-        → goal ≡ least_after_all mode una next k (drop (i + 1) (take n rs))
-    unfolding least_after_all
-    least_next d k h g e =
-        inv
-        ∙ ap (least_after_all mode una next least) (view_next rs n i d h g)
-        ∙ ap (λ (m : ℕ). least_after_all mode una next m (drop (i + 1) (take n rs))) (sym e)
+module _ (mode una next : ℕ) (rs : List Record) (i least : ℕ) (goal : Option ℕ) (d : Record) (h : i < length rs)
+    (inv : goal ≡ least_after_all mode una next least (drop i rs)) where
+  abbrev off : ℕ
+  off = minus (get_or rs i d).number una
 
-    pub least_end : n ≤ i → goal ≡ least
-    unfolding least_after_all
-    least_end h = inv ∙ rw (view_end rs n i h)
+  here : goal ≡ cond (fits_after mode una next least (get_or rs i d)) (least_after_all mode una next (off + 1) (drop (i + 1) rs)) None
+  unfolding least_after_all
+  here = let q : i + 1 ≡ suc i = omega arith in rw q (inv ∙ rw (drop-cons rs i d h) refl)
 
--- four tests of which one fails
-fails_in : (g a b f : Bool) → (a && b) ≡ false → (g && a && b && f) ≡ false
-fails_in true a b f e = rw e
-fails_in false a b f e = refl
+  pub least_next : (k : ℕ) → Some k ≡ least_after mode una next least (get_or rs i d)
+      → goal ≡ least_after_all mode una next k (drop (i + 1) rs)
+  least_next k = go (fits_after mode una next least (get_or rs i d)) here
+    where
+      go : (b : Bool) → goal ≡ cond b (least_after_all mode una next (off + 1) (drop (i + 1) rs)) None
+          → Some k ≡ cond b (Some (off + 1)) None → goal ≡ least_after_all mode una next k (drop (i + 1) rs)
+      go true e p = let q : k ≡ off + 1 = cc in rw q e
+      go false e p = cc
 
--- one record, o being its offset; g: it may be the first
-module _ (mode una next least o limit : ℕ) (g : Bool) (r : Record) (eg : g ≡ (ltb 0 least || eqb r.number una))
-    (eo : o ≡ minus r.number una) (el : limit ≡ minus next una) where
-  abbrev rises : Bool
-  rises = leb least o && ltb o limit
+  pub least_none : None ≡ least_after mode una next least (get_or rs i d) → goal ≡ None
+  least_none = go (fits_after mode una next least (get_or rs i d)) here
+    where
+      go : (b : Bool) → goal ≡ cond b (least_after_all mode una next (off + 1) (drop (i + 1) rs)) None
+          → None ≡ cond b (Some (off + 1)) None → goal ≡ None
+      go true e p = cc
+      go false e p = e
 
-  least_unfit : (f : Bool) → f ≡ record_fits mode r → (g && leb least o && ltb o limit && f) ≡ false
-      → 2 ^ 32 ≡ least_after mode una next least r
-  least_unfit f ef t = rw (← eo, ← el, ← ef, ← eg, t) refl
-
-  pub least_apart : not rises ≡ true → 2 ^ 32 ≡ least_after mode una next least r
-  least_apart t = least_unfit (record_fits mode r) refl (fails_in g (leb least o) (ltb o limit) (record_fits mode r) (not-true rises t))
-
-  pub least_broken : (f : Bool) → f ≡ record_fits mode r → not f ≡ true → 2 ^ 32 ≡ least_after mode una next least r
-  least_broken f ef t = least_unfit f ef (rw (not-true f t) (and-false (g && leb least o && ltb o limit)))
-
-  module _ (f : Bool) (ef : f ≡ record_fits mode r) (h : not rises ≡ false) (k : not f ≡ false) where
-    pub least_late : g ≡ false → 2 ^ 32 ≡ least_after mode una next least r
-    least_late t = least_unfit f ef (rw t refl)
-
-    pub least_fits : g ≡ true → o + 1 ≡ least_after mode una next least r
-    least_fits t = rw (← eo, ← el, ← ef, ← eg, t, not-false rises h, not-false f k) refl
+pub least_end : (mode una next : ℕ) (rs : List Record) (i least : ℕ) (goal : Option ℕ) → length rs ≤ i
+    → goal ≡ least_after_all mode una next least (drop i rs) → goal ≡ Some least
+unfolding least_after_all
+least_end mode una next rs i least goal h inv = inv ∙ rw (drop_of_length-le rs {i = i} h)
 
 -- the records looked at are those of the count
 pub looked_all : (rs : List Record) (n m : ℕ) → length rs ≡ 32 → m ≡ min n 32 → take m rs ≡ take n rs

@@ -1,6 +1,7 @@
 -- What the check of a control block asks of its words, numbers and records, as the code takes it. Definitions.
 -- Assumes nothing.
-use Rattle.std.specs.Prelude.{◌≡◌, Bool, true, cond, not, ◌&&◌, ◌||◌, List, [], ◌∷◌, ◌++◌, ℕ, ◌+◌, ◌-◌, ◌%◌, ◌^◌, leb, ltb, eqb, length, get_or, map}
+use Rattle.std.specs.Prelude.{◌≡◌, Bool, true, false, cond, not, ◌&&◌, ◌||◌, List, [], ◌∷◌, ◌++◌, ℕ, ◌+◌, ◌-◌, ◌%◌, ◌^◌, leb, ltb, eqb, length, get_or, map, Some, None}
+use Rattle.std.specs.declared.option.Option.{Option}
 use Rattle.protocol.specs.Protocol.{send_slots, send_window, receive_window, dead_after, skips_most}
 use Rattle.protocol.specs.Ranges.{in_range, mss}
 use Rattle.protocol.specs.Serial.{minus}
@@ -77,21 +78,24 @@ first_of (r ∷ l) other = r.number
 abbrev pub flight_fits : ℕ → ℕ → ℕ → List Record → Bool
 flight_fits mode una next l = leb (minus next una) send_window && eqb (first_of l next) una && records_fit mode una (minus next una) 0 l
 
--- the same in one pass, which carries the least offset from una that the next number may have: 0 at first, where the number is una; and
--- 2^32, which no offset is, behind a record that does not fit
-abbrev pub least_after : ℕ → ℕ → ℕ → ℕ → Record → ℕ
-least_after mode una next least r =
-    let offset = minus r.number una in
-    cond ((ltb 0 least || eqb r.number una) && leb least offset && ltb offset (minus next una) && record_fits mode r) (offset + 1)
-    (2 ^ 32)
+-- the same in one pass, which carries the least offset from una that the next number may have: 0 at first, where the number is una
+abbrev pub fits_after : ℕ → ℕ → ℕ → ℕ → Record → Bool
+fits_after mode una next least r =
+    (ltb 0 least || eqb r.number una) && leb least (minus r.number una) && ltb (minus r.number una) (minus next una) && record_fits mode r
 
-unfoldable pub least_after_all : ℕ → ℕ → ℕ → ℕ → List Record → ℕ
-least_after_all mode una next least [] = least
-least_after_all mode una next least (r ∷ l) = least_after_all mode una next (least_after mode una next least r) l
+-- none behind a record that does not fit
+abbrev pub least_after : ℕ → ℕ → ℕ → ℕ → Record → Option ℕ
+least_after mode una next least r = cond (fits_after mode una next least r) (Some (minus r.number una + 1)) None
+
+unfoldable pub least_after_all : ℕ → ℕ → ℕ → ℕ → List Record → Option ℕ
+least_after_all mode una next least [] = Some least
+least_after_all mode una next least (r ∷ l) =
+    cond (fits_after mode una next least r) (least_after_all mode una next (minus r.number una + 1) l) None
 
 -- what is carried in the end tells whether all fit
-abbrev pub flown_by : ℕ → ℕ → ℕ → Bool
-flown_by una next least = ltb least (2 ^ 32) && leb (minus next una) send_window && (ltb 0 least || eqb next una)
+abbrev pub flown_by : ℕ → ℕ → Option ℕ → Bool
+flown_by una next None = false
+flown_by una next (Some least) = leb (minus next una) send_window && (ltb 0 least || eqb next una)
 
 -- ---- the segments of a half, and the marks left
 

@@ -23,36 +23,27 @@ ghost use Rattle.congestion.specs.Congestions.{
 use crate::{Congestion, Losses};
 use protocol::Protocol;
 
-fn larger(a: u32, b: u32) -> u32
-    ensures { result ≡ max a b }
-{
-    if a < b { b } else { a }
-}
-
-fn smaller(a: u32, b: u32) -> u32
-    ensures { result ≡ min a b }
-{
-    if a < b { a } else { b }
-}
-
 // The window that a flush goes by: the least of 32, the peer's window and, with the setting on, the congestion window.
+#[tactic(auto, unfolding(crate::specs::Congestions::used_window))]
 pub fn used_window(on: bool, peer: u16, window: u32) -> u32
     ensures { result ≡ used_window on peer window }
 {
-    let most = smaller(Protocol::SEND_WINDOW, peer as u32);
-    if on { smaller(most, window) } else { most }
+    let most = Protocol::SEND_WINDOW.min(u32::from(peer));
+    if on { most.min(window) } else { most }
 }
 
 // The allowance after growth at or past the threshold.
+#[tactic(auto, unfolding(crate::specs::Congestions::raised))]
 fn raised(allowance: u32, mss: u32) -> u32
     requires { (allowance < 2 ^ 31) × (0 < mss) × (mss < 2 ^ 15) }
     ensures { result ≡ raised allowance mss }
 {
-    let base = larger(mss, allowance);
+    let base = mss.max(allowance);
     base + (mss * mss / base + mss / 16)
 }
 
 // The window, as wide as an allowance that has room for one segment more.
+#[tactic(auto, unfolding(crate::specs::Congestions::widened))]
 fn widened(window: u32, allowance: u32, mss: u32) -> u32
     requires { (window < 65536) × (allowance < 2 ^ 31 + 2 ^ 30 + 2 ^ 15) × (0 < mss) × (mss < 2 ^ 15) }
     ensures { result ≡ widened window allowance mss }
@@ -65,18 +56,20 @@ fn widened(window: u32, allowance: u32, mss: u32) -> u32
 }
 
 // Growth below the threshold.
+#[tactic(auto, unfolding(crate::specs::Congestions::slow_start))]
 fn slow_start(c: Congestion, mss: u32) -> Congestion
     requires { Growable mss c }
     ensures { result ≡ slow_start c mss }
 {
     Congestion {
         window: c.window + 1,
-        threshold: c.threshold,
         allowance: c.allowance + mss,
+        ..c
     }
 }
 
 // Growth at or past the threshold.
+#[tactic(auto, unfolding(crate::specs::Congestions::avoidance))]
 fn avoidance(c: Congestion, mss: u32) -> Congestion
     requires { Growable mss c }
     ensures { result ≡ avoidance c mss }
@@ -84,22 +77,23 @@ fn avoidance(c: Congestion, mss: u32) -> Congestion
     let allowance = raised(c.allowance, mss);
     Congestion {
         window: widened(c.window, allowance, mss),
-        threshold: c.threshold,
         allowance,
+        ..c
     }
 }
 
 // No more than the peer's window.
+#[tactic(auto, unfolding(crate::specs::Congestions::limited))]
 fn limited(c: Congestion, mss: u32, peer: u16) -> Congestion
     requires { mss < 2 ^ 15 }
     ensures { result ≡ limited c mss peer }
 {
-    let most = peer as u32;
+    let most = u32::from(peer);
     if most < c.window {
         Congestion {
             window: most,
-            threshold: c.threshold,
             allowance: most * mss,
+            ..c
         }
     } else {
         c
@@ -107,19 +101,21 @@ fn limited(c: Congestion, mss: u32, peer: u16) -> Congestion
 }
 
 // Half of a number of segments, and no less than the least threshold.
+#[tactic(auto, unfolding(crate::specs::Congestions::halved))]
 fn halved(segments: u32) -> u32
     ensures { result ≡ halved segments }
 {
-    larger(Protocol::CONGESTION_THRESHOLD_LEAST, segments / 2)
+    Protocol::CONGESTION_THRESHOLD_LEAST.max(segments / 2)
 }
 
 // Loss by skips.
+#[tactic(auto, unfolding(crate::specs::Congestions::by_skips))]
 fn by_skips(losses: Losses, mss: u32) -> Congestion
     requires { Countable mss losses }
     ensures { result ≡ by_skips losses mss }
 {
     let threshold = halved(losses.inflight);
-    let window = threshold + losses.skips as u32;
+    let window = threshold + u32::from(losses.skips);
     Congestion {
         window,
         threshold,
@@ -128,6 +124,7 @@ fn by_skips(losses: Losses, mss: u32) -> Congestion
 }
 
 // Loss by timeout.
+#[tactic(auto, unfolding(crate::specs::Congestions::by_timeout))]
 fn by_timeout(losses: Losses, mss: u32) -> Congestion
     ensures { result ≡ by_timeout losses mss }
 {
@@ -139,14 +136,15 @@ fn by_timeout(losses: Losses, mss: u32) -> Congestion
 }
 
 // A window under 1 becomes 1.
+#[tactic(auto, unfolding(crate::specs::Congestions::at_least_one))]
 fn at_least_one(c: Congestion, mss: u32) -> Congestion
     ensures { result ≡ at_least_one c mss }
 {
     if c.window < 1 {
         Congestion {
             window: 1,
-            threshold: c.threshold,
             allowance: mss,
+            ..c
         }
     } else {
         c
@@ -166,20 +164,24 @@ impl Congestion {
     }
 
     // Growth, by the peer's window.
+    #[tactic(auto, unfolding(crate::specs::Congestions::grown))]
     pub fn grown(self, mss: u32, peer: u16) -> Congestion
         requires { Growable mss self }
         ensures { result ≡ grown self mss peer }
     {
-        if peer as u32 <= self.window {
+        if u32::from(peer) <= self.window {
             return self;
         }
-        if self.window < self.threshold {
-            return limited(slow_start(self, mss), mss, peer);
-        }
-        limited(avoidance(self, mss), mss, peer)
+        let wider = if self.window < self.threshold {
+            slow_start(self, mss)
+        } else {
+            avoidance(self, mss)
+        };
+        limited(wider, mss, peer)
     }
 
     // After a datagram, by snd_una before and after it and the peer's window after it.
+    #[tactic(auto, unfolding(crate::specs::Congestions::after_datagram))]
     pub fn after_datagram(self, mss: u32, before: u32, after: u32, peer: u16) -> Congestion
         requires { Growable mss self }
         ensures { result ≡ after_datagram self mss before after peer }
@@ -192,26 +194,29 @@ impl Congestion {
     }
 
     // At the end of a flush: loss by skips, then by timeout, which leaves nothing of the former; then a window under 1 becomes 1.
+    #[tactic(auto, unfolding(crate::specs::Congestions::after_flush))]
     pub fn after_flush(self, mss: u32, losses: Losses) -> Congestion
         requires { Countable mss losses }
         ensures { result ≡ after_flush self mss losses }
     {
-        if losses.late {
-            return at_least_one(by_timeout(losses, mss), mss);
-        }
-        if losses.fast {
-            return at_least_one(by_skips(losses, mss), mss);
-        }
-        at_least_one(self, mss)
+        let after = if losses.late {
+            by_timeout(losses, mss)
+        } else if losses.fast {
+            by_skips(losses, mss)
+        } else {
+            self
+        };
+        at_least_one(after, mss)
     }
 
     // Whether refusal 13 lets it pass.
+    #[tactic(auto, unfolding(crate::specs::Congestions::fits))]
     pub fn fits(self, mss: u32) -> bool
         ensures { result ≡ fits self mss }
     {
+        let thresholds = Protocol::CONGESTION_THRESHOLD_LEAST..=Protocol::CONGESTION_THRESHOLD_MOST;
         (self.window <= Protocol::CONGESTION_WINDOW_MOST)
-            & (Protocol::CONGESTION_THRESHOLD_LEAST <= self.threshold)
-            & (self.threshold <= Protocol::CONGESTION_THRESHOLD_MOST)
-            & (self.allowance as u64 <= (self.window as u64 + 1) * mss as u64)
+            & thresholds.contains(&self.threshold)
+            & (u64::from(self.allowance) <= (u64::from(self.window) + 1) * u64::from(mss))
     }
 }

@@ -16,6 +16,7 @@ pub struct Segment {
 }
 
 // The tests of a header that has `room` bytes behind it, in turn.
+#[tactic(auto, unfolding(crate::specs::Datagrams::verdict))]
 fn judge(h: Header, room: usize, conv: u32, mss: usize) -> Result<(), Refusal>
     ensures { result ≡ verdict conv mss room h }
 {
@@ -26,10 +27,7 @@ fn judge(h: Header, room: usize, conv: u32, mss: usize) -> Result<(), Refusal>
     if room < len {
         return Err(Refusal::LengthPastEnd);
     }
-    if h.cmd < Protocol::PUSH {
-        return Err(Refusal::UnknownCommand);
-    }
-    if Protocol::WINDOW_TELL < h.cmd {
+    if !(Protocol::PUSH..=Protocol::WINDOW_TELL).contains(&h.cmd) {
         return Err(Refusal::UnknownCommand);
     }
     if h.cmd != Protocol::PUSH {
@@ -66,6 +64,7 @@ pub fn check(s: &[u8], conv: u32, mss: usize) -> Result<usize, Refusal>
 }
 
 // The segment at `at`. From 0 on, and then at each `next`, these are the segments of a datagram that `check` accepts.
+#[tactic(auto, unfolding(crate::specs::Datagrams::step_at, wire::specs::Headers::header_at))]
 pub fn segment_at(s: &[u8], at: usize) -> Option<Segment>
     ensures { result ≡ step_at s.now at }
 {

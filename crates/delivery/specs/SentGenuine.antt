@@ -10,7 +10,7 @@ use Rattle.protocol.specs.Ranges.{mss}
 use Rattle.protocol.specs.Serial.{plus}
 use Rattle.protocol.specs.declared.Settings.{Settings}
 use Rattle.datagram.specs.Datagrams.{Segment, Parsed, parse}
-use Rattle.retransmission.specs.Transmissions.{first_transmission, sending}
+use Rattle.retransmission.specs.Transmissions.{first_transmission, sending, is_sent}
 use Rattle.retransmission.specs.TransmissionLaws.{when_never_sent, transmission_number}
 use Rattle.timing.specs.Probes.{next_clock}
 use Rattle.timing.specs.declared.Record.{Record}
@@ -106,10 +106,10 @@ genuine_datagrams c pieces (d ∷ ds) e a = (
 -- ---- all newly numbered segments are transmitted
 
 module _ (c : Settings) (link t : ℕ) where
-  new_sends : (n : ℕ) (h : Held) → (ruling c link t (numbered_as n h)).rule.sends ≡ true
+  new_sends : (n : ℕ) (h : Held) → is_sent (ruling c link t (numbered_as n h)).rule ≡ true
   new_sends n h =
       let r : Record = record { number = n; due = 0; timeout = 0; skips = 0 } in
-      sym (ap (λ (x : Transmission). x.sends) (when_never_sent c link t 0 r {x = sending 0 (first_transmission c.mode link t r)} refl
+      sym (ap (λ (x : Transmission). is_sent x) (when_never_sent c link t 0 r {x = sending 0 (first_transmission c.mode link t r)} refl
       refl))
 
   pub transmitted_new : (n : ℕ) (q : List Held) → transmitted (ruled c link t (numbered n q)) ≡ map (sent_after c link t) (numbered n q)

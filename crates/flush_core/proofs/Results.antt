@@ -67,8 +67,8 @@ module _ (c : Settings) (f : Flight) (a : Arrival) (k : Clock) (queued outstandi
         lengths w transmissions'' records'' out' lengths'
         (rw (plans.flush, plans.ask, plans.tell, numbered.sent.list, e₁) at writes)
 
-    module _ (a' : Arrival) (k' : Clock) (f' : Flight) (lost : f' ≡ with_losses c n window w.fast w.late)
-        (cleared : a' ≡ cleared_of a) (moves : Moves k plan.probe w.dead t k') where
+    module _ (a' : Arrival) (k' : Clock) (f' : Flight) (lost : f' ≡ with_losses c n window w.told.fast w.told.late)
+        (cleared : a' ≡ cleared_of a) (moves : Moves k plan.probe w.told.dead t k') where
       abbrev after : Link
       after = link_of c f' a' k' (arrays queued' outstanding' transmissions'' ready waiting numbers)
 
@@ -133,16 +133,16 @@ module _ (c : Settings) (f : Flight) (a : Arrival) (k : Clock) (queued outstandi
           )
 
       -- all records are put back, or, where nothing was sent, none
-      puts : (changed : ℕ) → changed ≡ cond w.sent f'.outstanding 0 → PutsSent before.sending.outstanding
+      puts : (changed : ℕ) → changed ≡ cond w.told.sent f'.outstanding 0 → PutsSent before.sending.outstanding
           (flushing before t pool).state.sending.outstanding after (put_back outstanding' changed records'')
-      puts changed e = go w.sent refl
+      puts changed e = go w.told.sent refl
         where
-          go : (b : Bool) → w.sent ≡ b → PutsSent before.sending.outstanding
+          go : (b : Bool) → w.told.sent ≡ b → PutsSent before.sending.outstanding
               (flushing before t pool).state.sending.outstanding after (put_back outstanding' changed records'')
           go true h = inl (record { words = refl; changed = rw h at e })
           go false h = inr (rw h at e, idle before t pool (sym written.sends ∙ h))
 
-      pub runs : (changed : ℕ) → changed ≡ cond w.sent f'.outstanding 0 → Wrote block records pool acks t out lengths
+      pub runs : (changed : ℕ) → changed ≡ cond w.told.sent f'.outstanding 0 → Wrote block records pool acks t out lengths
           (record { answer = Ok (Some w.count); flight = f'; arrival = a'; clock = k'; changed = changed })
           after records'' out' lengths'
       runs changed e =

@@ -27,7 +27,12 @@ pub struct Flushed {
 }
 
 // What did not flush, or was refused: the numbers are those given, and nothing is to be put back.
-fn unflushed(answer: Answer<Option<usize>>, flight: Flight, arrival: Arrival, clock: Clock) -> Flushed
+fn unflushed(
+    answer: Answer<Option<usize>>,
+    flight: Flight,
+    arrival: Arrival,
+    clock: Clock,
+) -> Flushed
     ensures { result ≡ unflushed_of answer flight arrival clock }
 {
     Flushed {
@@ -83,15 +88,21 @@ fn flush_now(
         output,
         lengths,
     );
-    let after = parts::after_losses(settings, flown, window, written.fast, written.late);
-    let moved = parts::moved(clock, plan.probe, written.dead, t);
+    let after = parts::after_losses(
+        settings,
+        flown,
+        window,
+        written.told.fast,
+        written.told.late,
+    );
+    let moved = parts::moved(clock, plan.probe, written.told.dead, t);
     let cleared = parts::cleared(arrival);
     Flushed {
         answer: Ok(Some(written.count)),
         flight: after,
         arrival: cleared,
         clock: moved,
-        changed: parts::changed(written.sent, after.outstanding),
+        changed: parts::changed(written.told.sent, after.outstanding),
     }
 }
 

@@ -1,10 +1,9 @@
 -- Laws of outcomes.
 -- Assumes nothing.
-use Rattle.std.specs.Prelude.{◌≡◌, refl, Bool, true, false, cond, ◌&&◌, List, [], ◌∷◌, ℕ, suc, ◌+◌, ◌*◌, ◌≤◌, ◌<◌, max, leb, length, get_or}
+use Rattle.std.specs.Prelude.{◌≡◌, refl, Bool, true, false, cond, ◌&&◌, Result, Ok, Err, List, [], ◌∷◌, ℕ, suc, ◌+◌, ◌*◌, ◌≤◌, ◌<◌, max, leb, length, get_or}
 use Rattle.std.proofs.Common.{sym, ap, ◌∙◌, suc-mul, arith, leb-true, le-leb, eq-eqb}
 use Rattle.std.proofs.lemmas.List.Edits.{sets}
 use Rattle.frames.specs.declared.Refusal.{Refusal}
-use Rattle.frames.specs.declared.Answer.TheVariants.{Written, Refused}
 use Rattle.frames.specs.Lists.{joined, lengths_of, add_up, largest}
 use Rattle.frames.specs.Outcomes.{Outcome, refused, wrote, answer_of, bytes_after, lengths_after, Gives, length_ok, lengths_ok}
 use Rattle.frames.specs.Reading.{same}
@@ -18,12 +17,17 @@ and_right true b e = e
 and_right false b e = cc
 
 -- what a refused call leaves
-pub refusing : (o : Outcome) (r : Refusal) (bytes lengths : List ℕ) → o ≡ refused r → Gives o bytes lengths (Refused r) bytes lengths
+pub refusing : (o : Outcome) (r : Refusal) (bytes lengths : List ℕ) → o ≡ refused r → Gives o bytes lengths (Err r) bytes lengths
 refusing o r bytes lengths e = record {
   answer = sym (ap answer_of e);
   bytes = sym (ap (λ (p : Outcome). bytes_after p bytes) e);
   lengths = sym (ap (λ (p : Outcome). lengths_after p lengths) e);
 }
+
+-- the same, of a refusal handed on
+pub refusing_on : (o : Outcome) (r q : Refusal) (a : Result ℕ Refusal) (bytes lengths : List ℕ) → o ≡ refused r → q ≡ r → a ≡ Err q
+    → Gives o bytes lengths a bytes lengths
+refusing_on o r q a bytes lengths e f g = rw (g, f) (refusing o r bytes lengths e)
 
 -- what a call that writes leaves
 pub writing :
@@ -32,9 +36,9 @@ pub writing :
     n ≡ length l →
     bytes' ≡ sets bytes 0 (joined l) →
     lengths' ≡ sets lengths 0 (lengths_of l) →
-    Gives o bytes lengths (Written n) bytes' lengths'
+    Gives o bytes lengths (Ok n) bytes' lengths'
 writing o l n bytes lengths bytes' lengths' e q a b = record {
-  answer = ap Written q ∙ sym (ap answer_of e);
+  answer = ap Ok q ∙ sym (ap answer_of e);
   bytes = a ∙ sym (ap (λ (p : Outcome). bytes_after p bytes) e);
   lengths = b ∙ sym (ap (λ (p : Outcome). lengths_after p lengths) e);
 }

@@ -1,14 +1,12 @@
 -- What the writer and the reader answer, and what they leave. Definitions.
 -- Assumes nothing.
-use Rattle.std.specs.Prelude.{◌≡◌, Bool, true, false, cond, ◌&&◌, not, List, [], ◌∷◌, ℕ, ◌+◌, ◌*◌, leb, eqb, length}
+use Rattle.std.specs.Prelude.{◌≡◌, Bool, true, false, cond, ◌&&◌, not, Result, Ok, Err, List, [], ◌∷◌, ℕ, ◌+◌, ◌*◌, leb, eqb, length}
 use Rattle.std.proofs.lemmas.List.Edits.{sets}
 use Rattle.protocol.specs.Protocol.{header_size, mtu_least, mtu_most}
 use Rattle.protocol.specs.Refusals as link
 use Rattle.protocol.specs.declared.Refusal.TheVariants as linkRefusal
 use Rattle.frames.specs.declared.Refusal.{Refusal}
 use Rattle.frames.specs.declared.Refusal.TheVariants.{ShortPart, SettingOutOfRange, NotAGroup, TooFewFrames, LateGroup}
-use Rattle.frames.specs.declared.Answer.{Answer}
-use Rattle.frames.specs.declared.Answer.TheVariants as answer
 use Rattle.frames.specs.Lists.{add_up, joined, lengths_of, parts}
 use Rattle.frames.specs.Frames.{group}
 
@@ -26,9 +24,9 @@ pub data Outcome : Type 0 where
   wrote : List (List ℕ) → Outcome
 
 -- the refusal, or how many parts were written
-abbrev pub answer_of : Outcome → Answer
-answer_of (refused r) = answer.Refused r
-answer_of (wrote l) = answer.Written (length l)
+abbrev pub answer_of : Outcome → Result ℕ Refusal
+answer_of (refused r) = Err r
+answer_of (wrote l) = Ok (length l)
 
 -- the lent bytes, and the lent lengths, afterwards; refused, they stay
 abbrev pub bytes_after : Outcome → List ℕ → List ℕ
@@ -40,7 +38,7 @@ lengths_after (refused r) lengths = lengths
 lengths_after (wrote l) lengths = sets lengths 0 (lengths_of l)
 
 -- a call with this outcome: its answer, and what it makes of the lent bytes and lengths
-pub record Gives (o : Outcome) (out ns : List ℕ) (a : Answer) (out' ns' : List ℕ) : Type 0 where
+pub record Gives (o : Outcome) (out ns : List ℕ) (a : Result ℕ Refusal) (out' ns' : List ℕ) : Type 0 where
   pub answer : a ≡ answer_of o
   pub bytes : out' ≡ bytes_after o out
   pub lengths : ns' ≡ lengths_after o ns

@@ -1,6 +1,6 @@
 -- Laws of packed parts: their lengths, and what is stored one behind the other.
 -- Assumes nothing.
-use Rattle.std.specs.Prelude.{◌≡◌, refl, Bool, true, false, List, [], ◌∷◌, ◌++◌, ℕ, zero, suc, ◌+◌, ◌-◌, ◌≤◌, ◌<◌, max, ltb, leb, length, get_or, take, drop, set}
+use Rattle.std.specs.Prelude.{◌≡◌, refl, Bool, true, false, cond, ◌&&◌, List, [], ◌∷◌, ◌++◌, ℕ, zero, suc, ◌+◌, ◌-◌, ◌≤◌, ◌<◌, max, ltb, leb, length, get_or, take, drop, set}
 use Rattle.std.proofs.Common.{sym, ap, ap₂, ◌∙◌, append_assoc, append-nil, not-suc-le-zero, zero-add, add-one, arith, leb-true, leb-false, ltb-true, ltb-false, le-leb, length-append, length-take, length-drop, drop_of_length-le, drop-cons, drop-drop, get_or-take, get_or-drop}
 use Rattle.std.proofs.lemmas.Bool.{lt-leb}
 use Rattle.std.proofs.Math.ListN.{get_or-eq_default}
@@ -35,18 +35,13 @@ pub packed_end : (ns : List ℕ) (i left : ℕ) → length ns ≤ i → leb (add
 unfolding add_up
 packed_end ns i left h = rw (drop_of_length-le ns h) (le-leb 0 left (omega arith))
 
-pub lengths_step : (mtu : ℕ) (ns : List ℕ) (i : ℕ) → i < length ns → length_ok mtu (get_or ns i 0) ≡ true
-    → lengths_ok mtu (drop i ns) ≡ lengths_ok mtu (drop (i + 1) ns)
+pub lengths_cons : (mtu n : ℕ) (ns : List ℕ) → lengths_ok mtu (n ∷ ns) ≡ (length_ok mtu n && lengths_ok mtu ns)
 unfolding lengths_ok
-lengths_step mtu ns i h e = rw (add-one, drop-cons ns i 0, e)
-
-pub lengths_bad : (mtu : ℕ) (ns : List ℕ) (i : ℕ) → i < length ns → length_ok mtu (get_or ns i 0) ≡ false → lengths_ok mtu (drop i ns) ≡ false
-unfolding lengths_ok
-lengths_bad mtu ns i h e = rw (drop-cons ns i 0, e)
-
-pub lengths_end : (mtu : ℕ) (ns : List ℕ) (i : ℕ) → length ns ≤ i → lengths_ok mtu (drop i ns) ≡ true
-unfolding lengths_ok
-lengths_end mtu ns i h = rw (drop_of_length-le ns h)
+lengths_cons mtu n ns = go (length_ok mtu n)
+  where
+    go : (b : Bool) → cond b (lengths_ok mtu ns) false ≡ (b && lengths_ok mtu ns)
+    go true = refl
+    go false = refl
 
 pub largest_step : (ns : List ℕ) (i : ℕ) → i < length ns → largest (drop i ns) ≡ max (get_or ns i 0) (largest (drop (i + 1) ns))
 unfolding largest
@@ -94,6 +89,31 @@ unfolding largest
 get_d_largest [] p = omega arith
 get_d_largest (n ∷ ns) zero = omega arith
 get_d_largest (n ∷ ns) (suc p) = let h : get_or ns p 0 ≤ largest ns = get_d_largest ns p in omega arith
+
+-- part p lies at `from` and has n bytes
+pub record Lies (s ns : List ℕ) (p from n : ℕ) : Type 0 where
+  pub within : from + n ≤ length s
+  pub inside : from + n ≤ add_up ns
+  pub small : n ≤ largest ns
+  pub next : from + n ≡ add_up (take (p + 1) ns)
+  pub size : length (take (from + n - from) (drop from s)) ≡ n
+  pub part : take (from + n - from) (drop from s) ≡ get_or (parts s ns) p []
+
+pub lies : (s ns : List ℕ) (p from n : ℕ) → add_up ns ≤ length s → p < length ns → from ≡ add_up (take p ns) → n ≡ get_or ns p 0
+    → Lies s ns p from n
+lies s ns p from n h l ef en =
+    let a = add_up_next ns p l in
+    let b = add_up_le ns (p + 1) in
+    let w : from + n ≤ length s = omega (arith, a, b) in
+    let e : from + n - from ≡ n = omega arith in
+    record {
+      within = w;
+      inside = omega (arith, a, b);
+      small = omega (arith, get_d_largest ns p);
+      next = omega (arith, a);
+      size = rw e (length_part s from n w);
+      part = rw (e, ef, en) (sym (part_at s ns p l));
+    }
 
 pub size_le : (ds : List (List ℕ)) (p : ℕ) → length (get_or ds p []) ≤ largest (lengths_of ds)
 unfolding lengths_of largest

@@ -1,71 +1,69 @@
 // The tests that the writer and the reader share.
-ghost use Rattle.std.specs.Prelude.{◌≡◌, ◌*◌, ◌<◌, leb};
+ghost use Rattle.std.specs.Prelude.{◌≡◌, ◌*◌, ◌≤◌, ◌<◌, leb, true, false, length, MatchResult};
+ghost use Rattle.wire.specs.LittleEndian.{AllBytes};
 ghost use Rattle.frames.specs.Lists.{add_up};
-ghost use Rattle.frames.specs.Outcomes.{settings_ok, lent_ok, lengths_ok};
+ghost use Rattle.frames.specs.Outcomes.{lent_ok, length_ok, lengths_ok};
 
-use crate::Frames;
+use crate::Refusal;
 use protocol::Protocol;
 
-pub fn wide(x: u16) -> usize
-    ensures { result ≡ x }
-{
-    x as usize
-}
-
 // The lengths add up to no more than size.
-fn packed(size: usize, lengths: &[u16]) -> bool
+fn adds_up(size: usize, lengths: &[u16]) -> bool
     ensures { result ≡ leb (add_up lengths.now) size }
 {
     let mut left = size;
-    let mut i = 0;
-    while i < lengths.len() {
-        let n = wide(lengths[i]);
+    for n in lengths.iter() {
+        let n = usize::from(*n);
         if left < n {
             return false;
         }
         left -= n;
-        i += 1;
     }
     true
 }
 
-// Packed bytes are as many as their lengths say, and there is room for n parts of `each` bytes, and for n lengths.
-pub fn lent_ok(
-    size: usize,
-    lengths: &[u16],
-    n: usize,
-    each: usize,
-    room: usize,
-    slots: usize,
-) -> bool
-    requires { n * each < 1099511627776 }
-    ensures { result ≡ lent_ok size lengths.now n each room slots }
-{
-    packed(size, lengths) & (n * each <= room) & (n <= slots)
+// Parts, datagrams or frames, packed one behind the other, and the length of each.
+#[derive(Clone, Copy)]
+pub struct Packed<'a> {
+    pub bytes: &'a [u8],
+    pub lengths: &'a [u16],
+    pub ghost whole: { add_up lengths.now ≤ length bytes.now },
+    pub ghost small: { AllBytes bytes.now },
 }
 
-// 1 to 10 datagrams in a group, and a link's mtu.
-pub fn settings_ok(k: usize, mtu: usize) -> bool
-    ensures { result ≡ settings_ok k mtu }
+impl<'a> Packed<'a> {
+    // Packed bytes are as many as their lengths say, and there is room for n parts of `each` bytes, and for n lengths.
+    pub fn new(
+        bytes: &'a [u8],
+        lengths: &'a [u16],
+        n: usize,
+        each: usize,
+        room: usize,
+        slots: usize,
+    ) -> Result<Packed<'a>, Refusal>
+        requires { n * each < 1099511627776 }
+        ensures { MatchResult result
+            (λ p. (lent_ok (length bytes.now) lengths.now n each room slots ≡ true) × (p.bytes.now ≡ bytes.now) × (p.lengths.now ≡ lengths.now))
+            (λ r. (lent_ok (length bytes.now) lengths.now n each room slots ≡ false) × (r ≡ Refusal.ShortPart)) }
+    {
+        if adds_up(bytes.len(), lengths) && n * each <= room && n <= slots {
+            Ok(Packed { bytes, lengths })
+        } else {
+            Err(Refusal::ShortPart)
+        }
+    }
+}
+
+// A header's size to mtu.
+fn length_ok(mtu: usize, n: u16) -> bool
+    ensures { result ≡ length_ok mtu n }
 {
-    let least = Protocol::MTU_LEAST as usize;
-    let most = Protocol::MTU_MOST as usize;
-    (1 <= k) & (k <= Frames::DATA_MOST) & (least <= mtu) & (mtu <= most)
+    (Protocol::HEADER..=mtu).contains(&usize::from(n))
 }
 
 // Each length is 24 to mtu.
 pub fn lengths_ok(mtu: usize, lengths: &[u16]) -> bool
     ensures { result ≡ lengths_ok mtu lengths.now }
 {
-    let mut i = 0;
-    while i < lengths.len() {
-        let n = wide(lengths[i]);
-        let ok = (Protocol::HEADER <= n) & (n <= mtu);
-        if ok {
-            i += 1;
-        } else {
-            return false;
-        }
-    }
-    true
+    lengths.iter().all(|n| length_ok(mtu, *n))
 }

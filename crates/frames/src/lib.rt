@@ -1,10 +1,12 @@
 // Groups of frames: k data frames, each a datagram behind a header of 8 bytes, and two parity frames.
 #![tactic(auto)]
 
-ghost use Rattle.std.specs.Prelude.{◌≡◌};
-ghost use Rattle.frames.specs.Outcomes.{number_of};
+ghost use Rattle.std.specs.Prelude.{◌≡◌, ◌≤◌, true, false, MatchResult};
+ghost use Rattle.frames.specs.Outcomes.{number_of, settings_ok};
 
 pub mod lent;
+
+use protocol::Protocol;
 
 // The numbers of the frames.
 #[derive(Clone, Copy)]
@@ -30,7 +32,7 @@ impl Frames {
 }
 
 // Why a call is refused.
-#[derive(Clone, Copy)]
+#[derive(Clone, Copy, Debug, PartialEq, Eq)]
 pub enum Refusal {
     ShortPart,
     SettingOutOfRange,
@@ -40,11 +42,7 @@ pub enum Refusal {
 }
 
 // How many frames or datagrams were written, or why none.
-#[derive(Clone, Copy)]
-pub enum Answer {
-    Written(usize),
-    Refused(Refusal),
-}
+pub type Answer = Result<usize, Refusal>;
 
 impl Refusal {
     // The refusal's number.
@@ -57,6 +55,31 @@ impl Refusal {
             Refusal::NotAGroup => 21,
             Refusal::TooFewFrames => 22,
             Refusal::LateGroup => 23,
+        }
+    }
+}
+
+// The settings of a group: k datagrams, each of up to mtu bytes.
+#[derive(Clone, Copy)]
+pub struct Shape {
+    pub k: usize,
+    pub mtu: usize,
+    pub ghost few: { k ≤ 10 },
+    pub ghost small: { mtu ≤ 1400 },
+}
+
+impl Shape {
+    // 1 to 10 datagrams in a group, and a link's mtu; refuses other settings.
+    pub fn new(k: u32, mtu: u32) -> Result<Shape, Refusal>
+        ensures { MatchResult result (λ s. (settings_ok k mtu ≡ true) × (s.k ≡ k) × (s.mtu ≡ mtu))
+            (λ r. (settings_ok k mtu ≡ false) × (r ≡ Refusal.SettingOutOfRange)) }
+    {
+        let (k, mtu) = (k as usize, mtu as usize);
+        let mtus = usize::from(Protocol::MTU_LEAST)..=usize::from(Protocol::MTU_MOST);
+        if (1..=Frames::DATA_MOST).contains(&k) && mtus.contains(&mtu) {
+            Ok(Shape { k, mtu })
+        } else {
+            Err(Refusal::SettingOutOfRange)
         }
     }
 }

@@ -38,18 +38,11 @@ const LOGS: [u8; 256] = [
     214, 244, 234, 168, 80, 88, 175,
 ];
 
-fn wide(x: u8) -> usize
-    ensures { result ≡ x }
-{
-    x as usize
-}
-
 // The power of 2 that a is, where a is not 0.
 fn logarithm(a: u8) -> usize
     ensures { LogOf a result }
 {
-    let i = wide(a);
-    wide(LOGS[i])
+    usize::from(LOGS[usize::from(a)])
 }
 
 pub fn add(a: u8, b: u8) -> u8
@@ -80,10 +73,7 @@ pub fn power(n: usize) -> u8
 pub fn multiply(a: u8, b: u8) -> u8
     ensures { result ≡ mul a b }
 {
-    if a == 0 {
-        return 0;
-    }
-    if b == 0 {
+    if a == 0 || b == 0 {
         return 0;
     }
     power(logarithm(a) + logarithm(b))

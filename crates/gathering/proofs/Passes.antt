@@ -1,35 +1,29 @@
--- The turns of the loop that passes over the records of the outstanding segments.
+-- The records that the loop over the words passes.
 -- Assumes nothing.
 use mathlib.Core.Path.{◌≡◌, sym, ap, ◌∙◌}
 use mathlib.Core.List.{List, append-nil}
-use Prim.Native.Nat.{ℕ, suc, ◌+◌, ◌-◌, ◌≤◌, ◌<◌, ◌%◌, min}
+use Prim.Native.Nat.{ℕ, ◌-◌, ◌<◌, ◌%◌, min}
 use native.Mathlib.Decide.{dec_lt}
-use native.Mathlib.Numerals.{add-one}
 use native.Mathlib.Omega.{arith}
-use lib.ListN.{length, get_or, take, drop, drop_of_length-le, length-map}
-use lib.Seq.{drop-cons, take_all, take-append_seam, length-take-le}
+use lib.ListN.{length, get_or, take, length-map}
+use lib.Seq.{take_all, take-append_seam, length-take-le}
 use Rattle.timing.specs.declared.Record.{Record}
 use Rattle.records.specs.Tables.{blank, slots_in, gathered, padded}
-use Rattle.checking.specs.Tests.{least_after, least_after_all}
+use Rattle.std.proofs.lemmas.List.{get_or-map}
 
-module _ (mode una next : ℕ) (table : List Record) (slots : List ℕ) (i : ℕ) where
-  abbrev passed : ℕ → List ℕ → ℕ
-  passed least l = least_after_all mode una next least (gathered table l)
+-- k words are passed over
+module _ (table : List Record) (ws : List ℕ) (n k : ℕ) (e : k ≡ min n 32) where
+  pub found_count : length (gathered table (slots_in ws n)) ≡ length (take k ws)
+  found_count = rw e (length-map (slots_in ws n) (λ (s : ℕ). get_or table s blank) ∙ length-map (take (min n 32) ws) (λ (w : ℕ). w % 256))
 
-  -- one more record, at slot k
-  pub passes_more : (k a b goal : ℕ) (r : Record) → i < length slots → goal ≡ passed a (drop i slots) → k ≡ get_or slots i 0
-      → r ≡ get_or table k blank
-      → b ≡ least_after mode una next a r → goal ≡ passed b (drop (i + 1) slots)
-  unfolding least_after_all
-  passes_more k a b goal r h e e-k e_r e_b =
-      let at : r ≡ get_or table (get_or slots i 0) blank = e_r ∙ ap (λ (s : ℕ). get_or table s blank) e-k in
-      let step : b ≡ least_after mode una next a (get_or table (get_or slots i 0) blank) = e_b ∙ ap (least_after mode una next a) at in
-      e ∙ ap (passed a) (drop-cons slots i 0 h) ∙ rw add-one (ap (λ (m : ℕ). passed m (drop (suc i) slots)) (sym step))
-
-  -- none is left
-  pub passes_all_lem : (a goal : ℕ) → length slots ≤ i → goal ≡ passed a (drop i slots) → goal ≡ a
-  unfolding least_after_all
-  passes_all_lem a goal h e = e ∙ ap (passed a) (drop_of_length-le slots {i = i} h)
+  -- r is the record of the word at i
+  pub found_at : (i : ℕ) (r : Record) → i < length (take k ws) → r ≡ get_or table (get_or (take k ws) i 0 % 256) blank
+      → r ≡ get_or (gathered table (slots_in ws n)) i blank
+  found_at i r h f =
+      let g : i < length (slots_in ws n) = rw (length-map (take (min n 32) ws) (λ (w : ℕ). w % 256), ← e) h in
+      f ∙ sym (get_or-map (λ (s : ℕ). get_or table s blank) (slots_in ws n) i 0 blank g
+      ∙ ap (λ (s : ℕ). get_or table s blank) (get_or-map (λ (w : ℕ). w % 256) (take (min n 32) ws) i 0 0 (rw (← e) h)
+      ∙ ap (λ (m : ℕ). get_or (take m ws) i 0 % 256) (sym e)))
 
 -- the records of n outstanding segments are the first n of 32
 pub first_padded : (table : List Record) (ws : List ℕ) (n : ℕ) → length ws ≡ 32

@@ -71,16 +71,13 @@ pub fn fit(table: &[Record], words: &[u32; 32], settings: Settings, flight: Flig
     ensures { result ≡ flight_fits settings.mode flight.una flight.next (take flight.outstanding
         (padded (gathered (take send_slots table.now) (slots_in words.now flight.outstanding)))) }
 {
-    let count = flights::looked_at(flight);
-    let mut least: usize = 0;
-    let mut i = 0;
-    while i < count {
-        let word = word_at(words, i);
-        let slot = reach(word);
-        let found = records::read(table, slot);
-        let next = flights::next_least(least, found, settings, flight);
+    let mut least = 0;
+    for word in &words[..flight.outstanding.min(32)] {
+        let found = records::read(table, reach(*word));
+        let Some(next) = flights::next_least(least, found, settings, flight) else {
+            return false;
+        };
         least = next;
-        i += 1;
     }
     flights::flown(least, flight)
 }

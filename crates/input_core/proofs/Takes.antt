@@ -107,3 +107,15 @@ module _ (l : Link) (records : List Record) (pool acks s : List ℕ) (f : Flight
           ack_length_lem = long;
           ack_rest_lem = (y b.all b.parsed).beyond;
         })
+
+  -- the lists that come back are those that were left
+  pub takes_back : sending.HearsAll l.settings l.clock.current s (flight_of l records) (sending.view f words transmissions records')
+      → (r w m : List ℕ) → receiving.HearsAll l.settings s (receiver_in l) acks pool (receiving.half_of a r w m) acks' pool'
+      → counts_fit l ≡ true → length acks' ≡ length acks → (g : Flight) → g ≡ grown_from l.settings l.flight f
+      → ready ≡ r → waiting ≡ w → numbers ≡ m
+      → InputCore (input (state_of l records acks) pool s) l pool acks (Ok tt)
+      (link_of l.settings g a l.clock (arrays l.queued words transmissions ready waiting numbers))
+      (record { words = words; changed = g.outstanding; records = records' }) pool' acks'
+  takes_back x r w m y e long g q p₁ p₂ p₃ =
+      let z : receiving.HearsAll l.settings s (receiver_in l) acks pool (receiver_in after) acks' pool' = rw (p₁, p₂, p₃) y in
+      takes_all x z e long g q

@@ -14,6 +14,7 @@ ghost use Rattle.datagram.specs.StepLaws.{Begun};
 ghost use Rattle.input_core.specs.Taking.{checked_by, Hearable, grown_from, Takes};
 
 use answers::Answer;
+use arriving::Incoming;
 use checking::flights;
 use control::{Arrival, Clock, Flight};
 use protocol::Settings;
@@ -93,22 +94,18 @@ fn hear(
         transmissions,
         datagram,
     );
-    let received = receive::hear(
+    let mut half = Incoming {
         arrival,
         ready,
         waiting,
-        waiting_numbers,
-        marks,
-        settings,
-        datagram,
-        receive_pool,
-        acks,
-    );
+        numbers: waiting_numbers,
+    };
+    receive::hear(&mut half, settings, datagram, marks, receive_pool, acks);
     let after = grown(settings, flight, sent);
     Taken {
         answer: Ok(()),
         flight: after,
-        arrival: received,
+        arrival: half.arrival,
         changed: after.outstanding,
     }
 }

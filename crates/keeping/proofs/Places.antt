@@ -13,9 +13,8 @@ use Rattle.lists.specs.Views.{waiting_of}
 use Rattle.lists.specs.Orders.{waiting_offset, is_held, insert, ascending}
 use Rattle.lists.specs.OrderLaws.{ascending_room, insert_fits}
 use Rattle.lists.specs.declared.Held.{Held}
-use Rattle.lists.specs.declared.HeldList.{HeldList}
+use Rattle.lists.specs.declared.Listed.{Listed}
 use Rattle.lists.specs.declared.Waiting.{Waiting}
-use Rattle.lists.specs.declared.WaitingList.{WaitingList}
 use Rattle.keeping.specs.Pushing.{is_in_window, is_new_in, used_by}
 
 -- ---- the offset
@@ -50,7 +49,7 @@ module _ (next sn : ℕ) (waiting : List Waiting) (a b : Bool) (e : a ≡ is_in_
 
 -- ---- a push that is kept
 
-module _ (next sn : ℕ) (ready : HeldList) (waiting : WaitingList) (next_low : next < 2 ^ 32) (sn_low : sn < 2 ^ 32)
+module _ (next sn : ℕ) (ready : Listed Held 128) (waiting : Listed Waiting 128) (next_low : next < 2 ^ 32) (sn_low : sn < 2 ^ 32)
     (few : ready.count ≤ 128)
     (ascends : ascending (waiting_offset next) 0 128 (waiting_of waiting) ≡ true)
     (new : is_in_window next sn && is_new_in next (waiting_of waiting) sn ≡ true) where

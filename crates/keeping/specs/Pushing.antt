@@ -7,10 +7,9 @@ use Rattle.wire.specs.declared.Header.{Header}
 use Rattle.lists.specs.Views.{held_of, waiting_of, waiting_part}
 use Rattle.lists.specs.Orders.{waiting_offset, is_held}
 use Rattle.lists.specs.declared.Held.{Held}
-use Rattle.lists.specs.declared.HeldList.{HeldList}
+use Rattle.lists.specs.declared.Listed.{Listed}
 use Rattle.lists.specs.declared.Receiving.{Receiving}
 use Rattle.lists.specs.declared.Waiting.{Waiting}
-use Rattle.lists.specs.declared.WaitingList.{WaitingList}
 use Rattle.session.specs.State.{slots}
 use Rattle.session.specs.Slots.{lowest_free}
 
@@ -27,11 +26,11 @@ abbrev pub is_kept : Receiving → Header → Bool
 is_kept l h = is_in_window l.next h.sn && is_new_in l.next (waiting_of l.waiting) h.sn
 
 -- the slots that are held
-abbrev pub used_by : HeldList → WaitingList → List ℕ
+abbrev pub used_by : Listed Held 128 → Listed Waiting 128 → List ℕ
 used_by ready waiting = slots (held_of ready ++ map waiting_part (waiting_of waiting))
 
 -- the lowest free receive slot
-abbrev pub slot_for : HeldList → WaitingList → ℕ
+abbrev pub slot_for : Listed Held 128 → Listed Waiting 128 → ℕ
 slot_for ready waiting = lowest_free (used_by ready waiting) receive_slots
 
 -- the push, held in a slot
@@ -39,7 +38,7 @@ abbrev pub held_at : ℕ → Header → Held
 held_at slot h = record { slot = slot; len = h.len; fragment = h.frg }
 
 -- in the lowest free one
-abbrev pub held_for : HeldList → WaitingList → Header → Held
+abbrev pub held_for : Listed Held 128 → Listed Waiting 128 → Header → Held
 held_for ready waiting h = held_at (slot_for ready waiting) h
 
 -- its entry among those that wait

@@ -1,37 +1,18 @@
 -- Laws of `Lines`: text behind text, and how long a field is.
 -- Assumes nothing.
-use Rattle.std.specs.Prelude.{◌≡◌, refl, List, [], ◌∷◌, ◌++◌, ℕ, ◌+◌, ◌^◌, ◌≤◌, ◌<◌, length, set, get_or, take}
-use Rattle.std.proofs.Common.{append_assoc, append-nil, add_assoc, add-zero, add-one, arith, length-append, take-suc, take-suc-set}
+use Rattle.std.specs.Prelude.{◌≡◌, List, [], ◌∷◌, ◌++◌, ℕ, ◌+◌, ◌^◌, ◌≤◌, ◌<◌, length, get_or, take, drop}
+use Rattle.std.proofs.Common.{ap, ◌∙◌, append_assoc, append-nil, add-one, arith, length-append, take-suc}
 use Rattle.listing.specs.declared.Line.{Line}
 use Rattle.notation.specs.Decimal.{decimal}
 use Rattle.notation.specs.DecimalLaws.{length_decimal}
 use Rattle.wire.specs.Headers.{FieldsFit}
 use Rattle.wire.specs.declared.Header.{Header}
 use Rattle.listing.specs.Lines.{space, newline, field, row, segment_line, text_of, Holds}
-use Rattle.listing.specs.Puts.{front, back, Added}
-
-pub added_none : (l : Line) → Added l [] l
-added_none l = record { text = rw append-nil; len = rw add-zero }
-
-pub added_byte : (l : Line) (b : ℕ) → l.len < length l.bytes
-    → Added l (b ∷ []) (record { bytes = set l.bytes l.len b; len = l.len + 1 })
-added_byte l b h = record { text = rw (add-one, take-suc-set l.bytes l.len b h); len = refl }
-
-pub added_then : (l m r : Line) (t u : List ℕ) → Added l t m → Added m u r → Added l (t ++ u) r
-added_then l m r t u a b =
-    record {
-      text = rw (b.text, a.text, append_assoc);
-      len = rw (b.len, a.len, length-append, add_assoc);
-    }
-
-pub holds_added : (l r : Line) (t u : List ℕ) → Holds t l → Added l u r → length t + length u ≤ 80 → Holds (t ++ u) r
-holds_added l r t u a b most =
-    let long : r.len ≡ length t + length u = rw (b.len, a.len) in
-    record {
-      text = rw (b.text, a.text);
-      len = rw length-append long;
-      most = omega arith;
-    }
+use Rattle.std.proofs.lemmas.List.Edits.{sets, sets-eq}
+use Rattle.std.proofs.Math.Seq.{take-append_seam}
+use Rattle.notation.specs.Puts.{Put}
+use Rattle.notation.specs.PutLaws.{put_then}
+use Rattle.listing.specs.Puts.{spaced}
 
 pub length_field_one : (n end : ℕ) → length (field n end) ≡ length (decimal n) + 1
 unfolding field
@@ -44,10 +25,29 @@ holds_length t l h = rw (h.text, h.len)
 pub length_field : (k n end : ℕ) → 0 < k → n < 10 ^ k → length (field n end) ≤ k + 1
 length_field k n end p h = omega (arith, length_field_one n end, length_decimal k n p h)
 
--- one byte more of s
-pub added_next : (l m r : Line) (s : List ℕ) (i : ℕ) → Added l (take i s) m → Added m (get_or s i 0 ∷ []) r → i < length s
-    → Added l (take (i + 1) s) r
-added_next l m r s i a b h = rw (add-one, take-suc s i 0) (added_then l m r _ _ a b)
+take_sets_front : (l t : List ℕ) → length t ≤ length l → take (length t) (sets l 0 t) ≡ t
+take_sets_front l t h =
+    let room : 0 + length t ≤ length l = omega arith in
+    ap (take (length t)) (sets-eq t l 0 room) ∙ take-append_seam t (drop (0 + length t) l)
+
+-- text that is put into the bytes of a line
+pub holds_put : (was is t : List ℕ) (len : ℕ) → length was ≡ 80 → length t ≤ 80 → Put was 0 t len is → Holds t (record { bytes = is; len = len })
+holds_put was is t len whole short p =
+    let long : len ≡ length t = omega (arith, p.next) in
+    record {
+      text = rw (p.bytes, long) (take_sets_front was t (omega arith));
+      len = long;
+      most = omega arith;
+    }
+
+spaced_append : (xs : List ℕ) (n : ℕ) → spaced (xs ++ (n ∷ [])) ≡ spaced xs ++ field n space
+spaced_append [] n = append-nil (field n space)
+spaced_append (x ∷ xs) n = rw (spaced_append xs n, append_assoc)
+
+-- one field more
+pub spaced_put : (l : List ℕ) (i : ℕ) (was mid is : List ℕ) (at j k : ℕ) → i < length l → Put was at (spaced (take i l)) j mid
+    → Put mid j (field (get_or l i 0) space) k is → Put was at (spaced (take (i + 1) l)) k is
+spaced_put l i was mid is at j k h p q = rw (add-one, take-suc l i 0, spaced_append) (put_then _ _ _ _ _ _ _ _ p q)
 
 -- ---- a segment's line
 
@@ -75,14 +75,11 @@ widths h f =
       len = length_field 10 h.len newline (omega arith) (omega (arith, f.len));
     }
 
-pub length_front : (h : Header) → FieldsFit h → length (front h) ≤ 25
-unfolding front
-length_front h f = let w = widths h f in simp length-append (omega arith)
-
-pub length_back : (h : Header) → FieldsFit h → length (back h) ≤ 44
-unfolding back
-length_back h f = let w = widths h f in simp length-append (omega arith)
-
-pub segment_parts : (h : Header) → segment_line h ≡ front h ++ back h
-unfolding segment_line row front back
+pub segment_parts : (h : Header) → segment_line h
+    ≡ spaced (h.conv ∷ h.cmd ∷ h.frg ∷ h.wnd ∷ h.ts ∷ h.sn ∷ h.una ∷ []) ++ field h.len newline
+unfolding segment_line row
 segment_parts h = simp append_assoc
+
+pub length_segment : (h : Header) → FieldsFit h → length (segment_line h) ≤ 80
+unfolding segment_line row
+length_segment h f = let w = widths h f in simp length-append (omega arith)

@@ -14,6 +14,8 @@ use Rattle.datagram.specs.StepLaws.{Begun, accepted, was_refused}
 use Rattle.listing.specs.declared.Line.{Line}
 use Rattle.listing.specs.Lines.{column_line, segment_line, count_line, refusal_line, text_of, Holds}
 use Rattle.listing.specs.Listings.{listed, judged, segment_lines, body, listing_of, WroteListing}
+use Rattle.notation.specs.Puts.{Put}
+use Rattle.notation.specs.PutLaws.{put_length}
 use Rattle.listing.specs.Puts.{Wrote}
 
 pub listed_long : (s : List ℕ) → 65536 < length s → listed s ≡ refused ShortPart
@@ -45,6 +47,15 @@ listed_all s n e = go (dec_le (length s) 65536)
         record { short = h; begun = b; lines = rw (listed_parse s h, b.parsed, ← b.count) }
 
 -- ---- text behind text
+
+-- text that there is room for is put whole
+pub wrote_put : (was is : List ℕ) (i : ℕ) (t : List ℕ) (r : ℕ) → i + length t ≤ length was → Put was i t r is → Wrote was i t r is
+wrote_put was is i t r room p =
+    record {
+      bytes = p.bytes;
+      next = omega (arith, p.next);
+      inside = omega (arith, p.next, put_length was i t r is p);
+    }
 
 pub wrote_then : (was mid is : List ℕ) (i j k : ℕ) (t u : List ℕ) → Wrote was i t j mid → Wrote mid j u k is → Wrote was i (t ++ u) k is
 wrote_then was mid is i j k t u a b =

@@ -30,7 +30,7 @@ pub const ROOM_LEAST: usize = 220000;
 pub fn segment_line(h: Header) -> Line
     ensures { Holds (segment_line h) result }
 {
-    text::put_back(text::put_front(text::empty(), h), h)
+    text::header_line(h)
 }
 
 // The last line where a datagram is accepted.

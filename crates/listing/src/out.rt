@@ -5,18 +5,14 @@ ghost use Rattle.listing.specs.Listings.{listed, judged, body};
 ghost use Rattle.listing.specs.Puts.{Wrote};
 
 use crate::Line;
+use notation::put;
 
 // All of `s` at `at`, where there is room for it, and the place behind it.
 pub(crate) fn put_text(out: &mut [u8], at: usize, s: &[u8]) -> usize
     requires { at + length s.now ≤ length out.old }
     ensures { Wrote out.old at s.now result out.new }
 {
-    let mut i = 0;
-    while i < s.len() {
-        out[at + i] = s[i];
-        i += 1;
-    }
-    at + i
+    put::bytes(out, at, s)
 }
 
 // The text of a line at `at`, where there is room for it, and the place behind it.
@@ -24,9 +20,7 @@ pub(crate) fn put_line(out: &mut [u8], at: usize, line: Line) -> usize
     requires { (line.len ≤ 80) × (at + line.len ≤ length out.old) }
     ensures { Wrote out.old at (text_of line) result out.new }
 {
-    let n = line.len;
-    let bytes = line.bytes;
-    put_text(out, at, &bytes[..n])
+    put_text(out, at, &line.bytes[..line.len])
 }
 
 // The lines of an accepted datagram of n segments at `at`, and the place behind them. A segment has 24 bytes or more and a

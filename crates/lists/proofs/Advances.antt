@@ -9,8 +9,7 @@ use lib.Seq.{take-nil, length-take-le}
 use Rattle.protocol.specs.Serial.{plus}
 use Rattle.lists.specs.declared.Held.{Held}
 use Rattle.lists.specs.declared.Waiting.{Waiting}
-use Rattle.lists.specs.declared.HeldList.{HeldList}
-use Rattle.lists.specs.declared.WaitingList.{WaitingList}
+use Rattle.lists.specs.declared.Listed.{Listed}
 use Rattle.lists.specs.Views.{HeldIs, WaitingIs, waiting_part}
 use Rattle.lists.specs.Receiving.{advance, run_of, ReceivingIs}
 use Rattle.lists.specs.ReceivingLaws.{raised, risen, advance_run}
@@ -22,7 +21,7 @@ take_min (suc m) (suc n) [] = sym (take-nil (min (suc m) (suc n)))
 take_min (suc m) (suc n) (x ∷ l) = rw suc-min-suc (ap (λ (r : List _). x ∷ r) (take_min m n l))
 
 -- r and w are the arrays of the ready and of the waiting, i and j their counts
-module _ (next i j n k next' : ℕ) (r : List Held) (w : List Waiting) (up : HeldList) (left : WaitingList) where
+module _ (next i j n k next' : ℕ) (r : List Held) (w : List Waiting) (up : Listed Held 128) (left : Listed Waiting 128) where
   run_is : i ≤ length r → n ≡ min (128 - i) j → k ≡ run_of next (take n w) → risen next (take i r) (take j w) ≡ k
   run_is g e f = rw (length-take-le i r g, take_min, ← e) (sym f)
 

@@ -4,7 +4,7 @@ use Rattle.std.specs.Prelude.{◌≡◌, List, [], ◌∷◌, ◌≤◌}
 use Rattle.lists.specs.declared.Outstanding.{Outstanding}
 use Rattle.lists.specs.declared.Sent.{Sent}
 use Rattle.timing.specs.declared.Record.{Record}
-use Rattle.lists.specs.declared.OutstandingList.{OutstandingList}
+use Rattle.lists.specs.declared.Listed.{Listed}
 use Rattle.lists.specs.Views.{outstanding_of}
 
 abbrev pub with_record : Outstanding → Record → Sent
@@ -23,6 +23,6 @@ abbrev pub record_of : Sent → Record
 record_of s = s.record
 
 -- there are at most 32, and each with the record at its index they are l
-pub record JoinedIs (o : OutstandingList) (records : List Record) (l : List Sent) : Type 0 where
+pub record JoinedIs (o : Listed Outstanding 32) (records : List Record) (l : List Sent) : Type 0 where
   pub fits : o.count ≤ 32
   pub list : joined (outstanding_of o) records ≡ l

@@ -4,7 +4,7 @@ use Rattle.std.specs.Prelude.{◌≡◌, refl, List, [], ◌∷◌, map, ℕ, ze
 use Rattle.std.proofs.Common.{sym, ap, ◌∙◌, arith}
 use Rattle.lists.specs.declared.Held.{Held}
 use Rattle.lists.specs.declared.Outstanding.{Outstanding}
-use Rattle.lists.specs.declared.OutstandingList.{OutstandingList}
+use Rattle.lists.specs.declared.Listed.{Listed}
 use Rattle.lists.specs.declared.Sent.{Sent}
 use Rattle.timing.specs.declared.Record.{Record}
 use Rattle.lists.specs.Views.{Holds, outstanding_part, sent_part}
@@ -59,5 +59,5 @@ set_joined (p ∷ os) (q ∷ rs) zero o r = refl
 set_joined (p ∷ os) (q ∷ rs) (suc i) o r = ap (λ (l : List Sent). with_record p q ∷ l) (set_joined os rs i o r)
 
 -- a list that stands in the front of both arrays
-pub joined_is : (s : OutstandingList) (rs : List Record) (l : List Sent) → Holds 32 (joined s.at rs) s.count l → JoinedIs s rs l
+pub joined_is : (s : Listed Outstanding 32) (rs : List Record) (l : List Sent) → Holds 32 (joined s.at rs) s.count l → JoinedIs s rs l
 joined_is s rs l h = record { fits = h.fits; list = sym (take_joined s.count s.at rs) ∙ h.list }

@@ -5,9 +5,7 @@ use Rattle.lists.specs.declared.Held.{Held}
 use Rattle.lists.specs.declared.Waiting.{Waiting}
 use Rattle.lists.specs.declared.Outstanding.{Outstanding}
 use Rattle.lists.specs.declared.Sent.{Sent}
-use Rattle.lists.specs.declared.HeldList.{HeldList}
-use Rattle.lists.specs.declared.WaitingList.{WaitingList}
-use Rattle.lists.specs.declared.OutstandingList.{OutstandingList}
+use Rattle.lists.specs.declared.Listed.{Listed}
 
 -- a held segment as one word of 32 bits: slot and fragment number of 8 bits, length of 16 bits
 abbrev pub unpack : ℕ → Held
@@ -17,13 +15,13 @@ unpack w = record { slot = w % 256; len = w / 65536; fragment = w / 256 % 256 }
 abbrev pub list_of : {A : Type 0} → List A → ℕ → List A
 list_of at count = take count at
 
-abbrev pub held_of : HeldList → List Held
+abbrev pub held_of : Listed Held 128 → List Held
 held_of s = list_of s.at s.count
 
-abbrev pub waiting_of : WaitingList → List Waiting
+abbrev pub waiting_of : Listed Waiting 128 → List Waiting
 waiting_of s = list_of s.at s.count
 
-abbrev pub outstanding_of : OutstandingList → List Outstanding
+abbrev pub outstanding_of : Listed Outstanding 32 → List Outstanding
 outstanding_of s = list_of s.at s.count
 
 -- the segment as its slot holds it
@@ -41,11 +39,11 @@ pub record Holds {A : Type 0} (size : ℕ) (at : List A) (count : ℕ) (l : List
   pub fits : count ≤ size
   pub list : list_of at count ≡ l
 
-abbrev pub HeldIs : HeldList → List Held → Type 0
+abbrev pub HeldIs : Listed Held 128 → List Held → Type 0
 HeldIs s = Holds 128 s.at s.count
 
-abbrev pub WaitingIs : WaitingList → List Waiting → Type 0
+abbrev pub WaitingIs : Listed Waiting 128 → List Waiting → Type 0
 WaitingIs s = Holds 128 s.at s.count
 
-abbrev pub OutstandingIs : OutstandingList → List Outstanding → Type 0
+abbrev pub OutstandingIs : Listed Outstanding 32 → List Outstanding → Type 0
 OutstandingIs s = Holds 32 s.at s.count

@@ -67,24 +67,11 @@ pub struct Sent {
     pub record: Record,
 }
 
+// A list in the front of an array, up to its count.
 #[repr(C)]
 #[derive(Clone, Copy)]
-pub struct HeldList {
-    pub at: [Held; 128],
-    pub count: usize,
-}
-
-#[repr(C)]
-#[derive(Clone, Copy)]
-pub struct WaitingList {
-    pub at: [Waiting; 128],
-    pub count: usize,
-}
-
-#[repr(C)]
-#[derive(Clone, Copy)]
-pub struct OutstandingList {
-    pub at: [Outstanding; 32],
+pub struct Listed<T, const N: usize> {
+    pub at: [T; N],
     pub count: usize,
 }
 
@@ -93,8 +80,8 @@ pub struct OutstandingList {
 #[derive(Clone, Copy)]
 pub struct Receiving {
     pub next: u32,
-    pub ready: HeldList,
-    pub waiting: WaitingList,
+    pub ready: Listed<Held, 128>,
+    pub waiting: Listed<Waiting, 128>,
 }
 
 // What acknowledges an outstanding segment: an arriving una, or an arriving ack's number.

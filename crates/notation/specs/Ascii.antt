@@ -1,11 +1,8 @@
 -- Text as bytes. Definitions.
 -- Assumes nothing.
-use Rattle.std.specs.Prelude.{List, [], ◌∷◌, ℕ}
-use Prim.Native.Char.{code}
+use Rattle.std.specs.Prelude.{List, ℕ, codes}
 use Prim.Native.String.{String}
-use Prim.Native.String as string
 
 -- the bytes of a text in ASCII
-unfoldable pub ascii : String → List ℕ
-ascii string.[] = []
-ascii (string.◌∷◌ c s) = code c ∷ ascii s
+abbrev pub ascii : String → List ℕ
+ascii = codes

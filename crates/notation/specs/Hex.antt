@@ -1,10 +1,8 @@
 -- Bytes in hex. Definitions.
 -- Assumes nothing.
-use Rattle.std.specs.Prelude.{◌≡◌, Bool, cond, ◌&&◌, ◌||◌, List, [], ◌∷◌, ℕ, ◌+◌, ◌*◌, ◌-◌, ◌/◌, ◌%◌, leb, ltb, eqb, length, get_or}
+use Rattle.std.specs.Prelude.{◌≡◌, Bool, cond, Option, Some, None, ◌&&◌, ◌||◌, List, [], ◌∷◌, ℕ, ◌+◌, ◌*◌, ◌-◌, ◌/◌, ◌%◌, leb, ltb, eqb, length, get_or}
 use Rattle.std.proofs.lemmas.List.Edits.{sets}
 use Rattle.notation.specs.Words.{is_digit, every}
-use Rattle.notation.specs.declared.Bytes.{Bytes}
-use Rattle.notation.specs.declared.Bytes.TheVariants.{Count, Malformed}
 
 -- ---- printed
 
@@ -54,6 +52,6 @@ unfoldable pub is_bytes : List ℕ → ℕ → Bool
 is_bytes w room = is_dash w || ltb 0 (length w / 2) && leb (length w / 2) room && is_hex w
 
 -- the bytes of a word at the start of `was`, and their count; nothing where it stands for none
-pub record ReadBytes (w was : List ℕ) (r : Bytes) (is : List ℕ) : Type 0 where
-  pub answer : r ≡ cond (is_bytes w (length was)) (Count (length (bytes_of w))) Malformed
+pub record ReadBytes (w was : List ℕ) (r : Option ℕ) (is : List ℕ) : Type 0 where
+  pub answer : r ≡ cond (is_bytes w (length was)) (Some (length (bytes_of w))) None
   pub bytes : is ≡ cond (is_bytes w (length was)) (sets was 0 (bytes_of w)) was

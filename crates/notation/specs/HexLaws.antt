@@ -1,12 +1,11 @@
 -- Laws of `Hex`: when a word stands for bytes and when not, and that reading and printing bytes undo each other.
 -- Assumes nothing.
-use Rattle.std.specs.Prelude.{◌≡◌, refl, Bool, true, false, ◌&&◌, List, [], ◌∷◌, ◌++◌, ℕ, ◌+◌, ◌*◌, ◌-◌, ◌/◌, ◌%◌, ◌≤◌, ◌<◌, leb, ltb, eqb, length, get_or, set, take, drop}
+use Rattle.std.specs.Prelude.{◌≡◌, refl, Bool, true, false, Some, None, ◌&&◌, List, [], ◌∷◌, ◌++◌, ℕ, ◌+◌, ◌*◌, ◌-◌, ◌/◌, ◌%◌, ◌≤◌, ◌<◌, leb, ltb, eqb, length, get_or, set, take, drop}
 use Rattle.std.proofs.Common.{sym, ◌∙◌, ap, add-one, arith, lt-ltb, le-ltb, le-leb, ltb-true, leb-true, eqb-true, eq-eqb, ne_eqb, length-drop, drop-cons, take-suc}
 use Rattle.std.proofs.Math.Bool.{and-false}
 use Rattle.std.proofs.Math.Decide.{dec_lt}
 use Rattle.std.proofs.lemmas.Bool.{lt-leb}
 use Rattle.std.proofs.lemmas.List.Edits.{sets}
-use Rattle.notation.specs.declared.Bytes.TheVariants.{Count, Malformed}
 use Rattle.notation.specs.Words.{is_digit, every}
 use Rattle.notation.specs.WordLaws.{and_both, digit_range}
 use Rattle.notation.specs.Hex.{hex_digit, hex_of, bytes_word, is_hex_digit, hex_value, is_hex, unhex, is_dash, bytes_of, is_bytes, ReadBytes}
@@ -24,10 +23,6 @@ pub value_letter : (c : ℕ) → is_digit c ≡ false → is_hex_digit c ≡ tru
 unfolding hex_value
 value_letter c other h = (rw (other, rw other at h), omega (arith, hex_range c other h))
 
-pub value_none : (c : ℕ) → is_digit c ≡ false → is_hex_digit c ≡ false → (0 ≡ hex_value c) × (0 < 16)
-unfolding hex_value
-value_none c other h = (rw (other, rw other at h), omega arith)
-
 -- ---- printed
 
 hex_of_append : (xs ys : List ℕ) → hex_of (xs ++ ys) ≡ hex_of xs ++ hex_of ys
@@ -37,10 +32,6 @@ hex_of_append (x ∷ xs) ys = rw (hex_of_append xs ys)
 
 pub hex_of_next : (s : List ℕ) (n : ℕ) → n < length s → hex_of (take (n + 1) s) ≡ hex_of (take n s) ++ hex_of (get_or s n 0 ∷ [])
 hex_of_next s n h = rw (add-one, take-suc s n 0, hex_of_append)
-
-pub word_none : (l : List ℕ) → length l ≡ 0 → bytes_word l ≡ 45 ∷ []
-word_none [] h = refl
-word_none (b ∷ l) h = absurd (omega arith)
 
 pub word_some : (l : List ℕ) → (length l ≡ 0 → ⊥) → bytes_word l ≡ hex_of l
 word_some [] h = absurd (h refl)
@@ -82,17 +73,17 @@ unhex_end s i h = unhex_short _ (rw (length-drop) (omega arith))
 
 -- ---- a word
 
-pub read_dash : (w was : List ℕ) → is_dash w ≡ true → ReadBytes w was (Count 0) was
+pub read_dash : (w was : List ℕ) → is_dash w ≡ true → ReadBytes w was (Some 0) was
 unfolding is_bytes bytes_of
 read_dash w was h = record { answer = rw h; bytes = rw h }
 
 pub read_hex : (w was is : List ℕ) → is_dash w ≡ false → ltb 0 (length w / 2) && leb (length w / 2) (length was) && is_hex w ≡ true →
-    is ≡ sets was 0 (unhex w) → ReadBytes w was (Count (length w / 2)) is
+    is ≡ sets was 0 (unhex w) → ReadBytes w was (Some (length w / 2)) is
 unfolding is_bytes bytes_of
 read_hex w was is dash hex e = record { answer = rw (dash, hex, length_unhex); bytes = rw (dash, hex) e }
 
 pub read_none : (w was : List ℕ) → is_dash w ≡ false → ltb 0 (length w / 2) && leb (length w / 2) (length was) && is_hex w ≡ false
-    → ReadBytes w was Malformed was
+    → ReadBytes w was None was
 unfolding is_bytes bytes_of
 read_none w was dash hex = record { answer = rw (dash, hex); bytes = rw (dash, hex) }
 
@@ -122,7 +113,7 @@ AreBytes [] = Unit {0}
 AreBytes (b ∷ l) = (b < 256) × AreBytes l
 
 every_hex_of : (l : List ℕ) → AreBytes l → every is_hex_digit (hex_of l) ≡ true
-unfolding every hex_of
+unfolding hex_of
 every_hex_of [] h = refl
 every_hex_of (b ∷ l) h = rw ((hex_value_hex_digit (b / 16) (omega (arith, h.0))).0, (hex_value_hex_digit (b % 16) (omega arith)).0)
     (every_hex_of l h.1)
@@ -167,7 +158,7 @@ hex_digit_hex_value c h = go (is_digit c) refl
         (rw (← v.0, le-ltb (c - 87) 10 (omega arith)) (omega arith), rw (← v.0) v.1)
 
 hex_of_unhex : (w : List ℕ) → every is_hex_digit w ≡ true → length w % 2 ≡ 0 → hex_of (unhex w) ≡ w
-unfolding every hex_of unhex
+unfolding hex_of unhex
 hex_of_unhex [] h even = refl
 hex_of_unhex (a ∷ []) h even = absurd (omega arith)
 hex_of_unhex (a ∷ b ∷ w) h even =

@@ -1,17 +1,15 @@
 -- A word read as a number. Definitions.
 -- Assumes nothing.
-use Rattle.std.specs.Prelude.{Bool, true, not, cond, ◌&&◌, List, [], ◌∷◌, ℕ, leb, ltb, eqb, length, get_or}
+use Rattle.std.specs.Prelude.{Bool, not, cond, Option, Some, None, ◌&&◌, List, ℕ, leb, ltb, eqb, length, get_or}
+use Rattle.std.specs.List.{list_all}
 use Rattle.notation.specs.Decimal.{value}
-use Rattle.notation.specs.declared.Number.{Number}
-use Rattle.notation.specs.declared.Number.TheVariants.{Of, Malformed}
 
 abbrev pub is_digit : ℕ → Bool
 is_digit c = leb 48 c && leb c 57
 
 -- the test holds of each byte
-unfoldable pub every : (ℕ → Bool) → List ℕ → Bool
-every test [] = true
-every test (c ∷ w) = test c && every test w
+abbrev pub every : (ℕ → Bool) → List ℕ → Bool
+every = list_all
 
 -- two bytes or more, the first of them a zero
 abbrev pub leading_zero : List ℕ → Bool
@@ -22,5 +20,5 @@ unfoldable pub is_decimal : List ℕ → Bool
 is_decimal w = ltb 0 (length w) && not (leading_zero w) && every is_digit w
 
 -- a number of at most 32 bits
-unfoldable pub number_of : List ℕ → Number
-number_of w = cond (is_decimal w && leb (value 0 w) 4294967295) (Of (value 0 w)) Malformed
+unfoldable pub number_of : List ℕ → Option ℕ
+number_of w = cond (is_decimal w && leb (value 0 w) 4294967295) (Some (value 0 w)) None

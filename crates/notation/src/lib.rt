@@ -5,16 +5,11 @@
 pub mod put;
 pub mod read;
 
-// A number read from a word.
-#[derive(Clone, Copy)]
-pub enum Number {
-    Of(u32),
-    Malformed,
-}
+ghost use Rattle.std.specs.Prelude.{◌≡◌, take};
 
-// How many bytes were read from a word.
-#[derive(Clone, Copy)]
-pub enum Bytes {
-    Count(usize),
-    Malformed,
+// The first `count` items of a list, or all of it.
+pub fn front<T>(list: &[T], count: usize) -> &[T]
+    ensures { result.now ≡ take count list.now }
+{
+    &list[..count.min(list.len())]
 }

@@ -18,10 +18,8 @@ pub fn bytes(out: &mut [u8], at: usize, s: &[u8]) -> usize
     ensures { Put out.old at s.now result out.new }
 {
     let mut here = at;
-    let mut i: usize = 0;
-    while i < s.len() {
-        here = byte(out, here, s[i]);
-        i += 1;
+    for b in s {
+        here = byte(out, here, *b);
     }
     here
 }
@@ -42,7 +40,7 @@ fn hex_digit(n: u8) -> u8
     requires { n < 16 }
     ensures { result ≡ hex_digit n }
 {
-    if n < 10 { b'0' + n } else { 87 + n }
+    if n < 10 { b'0' + n } else { b'a' + (n - 10) }
 }
 
 // The two digits of a byte.
@@ -57,14 +55,12 @@ fn hex_byte(out: &mut [u8], at: usize, b: u8) -> usize
 pub fn hex(out: &mut [u8], at: usize, s: &[u8]) -> usize
     ensures { Put out.old at (bytes_word s.now) result out.new }
 {
-    if s.len() == 0 {
+    if s.is_empty() {
         return byte(out, at, b'-');
     }
     let mut here = at;
-    let mut i: usize = 0;
-    while i < s.len() {
-        here = hex_byte(out, here, s[i]);
-        i += 1;
+    for b in s {
+        here = hex_byte(out, here, *b);
     }
     here
 }

@@ -1,7 +1,12 @@
 -- Steps of restoring what is lost.
 -- Assumes nothing.
-use Rattle.std.specs.Prelude.{◌≡◌, refl, Bool, true, false, ◌||◌, List, ℕ, zero, suc, ◌+◌, ◌≤◌, ◌<◌, eqb, length, get_or}
-use Rattle.std.proofs.Common.{sym, ◌∙◌, add-one, arith, ne_eqb}
+use Rattle.std.specs.Prelude.{◌≡◌, refl, Bool, true, false, cond, not, ◌||◌, Option, None, Some, is_some, List, ℕ, zero, suc, ◌+◌, ◌-◌, ◌≤◌, ◌<◌, eqb, length, get_or, slice_index_or, take, drop}
+use Rattle.std.proofs.Common.{sym, ◌∙◌, subst, add-one, arith, eqb-true, eq-eqb, ne_eqb}
+use Rattle.std.specs.Option.{option_eq}
+use Rattle.std.proofs.lemmas.Bool.{eqb-false}
+use Rattle.std.proofs.lemmas.List.{get_or_default}
+use Rattle.parity_scan.specs.declared.held.Span.{Span}
+use Rattle.parity_restore.specs.Restored.{place, lost}
 use Rattle.std.proofs.Math.Path.{ap, ap₂}
 use Rattle.wire.specs.LittleEndian.{AllBytes}
 use Rattle.galois.specs.Field.{plus, mul, power, inverse}
@@ -14,9 +19,8 @@ use Rattle.frames.specs.Reading.{rest, solved}
 use Rattle.frames.specs.PartLaws.{part_bytes}
 use Rattle.frames.specs.PlaceLaws.{other_some}
 use Rattle.frames.specs.WeightLaws.{tail, added_from_0, steps_none, steps_next, steps_done}
-use Rattle.parity_scan.specs.declared.Held.{Held}
-use Rattle.parity_scan.specs.Held.{shard_in, Inside}
-use Rattle.parity_scan.specs.HeldLaws.{sized_true, sized_false}
+use Rattle.parity_scan.specs.Held.{Held, at_in, size_in, shard_in, sized, Inside}
+use Rattle.parity_scan.specs.HeldLaws.{has_sized, sized_at}
 
 -- ---- the rest of a parity, from the last place to the first
 
@@ -35,7 +39,7 @@ row_only k shards i j n row e r = record { size = r.size; byte = λ x l. r.byte 
 module _ (w : ℕ) (s : List ℕ) (h : Held) (bytes : AllBytes s) where
   small : (x q : ℕ) → held_byte s h x q < 256
   unfolding shard_in
-  small x q = part_bytes s (get_or h.at q 0) (get_or h.size q 0) bytes x
+  small x q = part_bytes s (at_in h q) (size_in h q) bytes x
 
   pub rest_none : (k n : ℕ) (row : List ℕ) → Row (λ x. 0) n row → Row (λ x. tail w (held_byte s h x) k k) (length row) row
   rest_none k n row r = steps_none w (held_byte s h) small k n (length row) row (sym r.size) r
@@ -68,6 +72,21 @@ module _ (w : ℕ) (s : List ℕ) (h : Held) (bytes : AllBytes s) where
             ∙ ap (plus (held_byte s h x (k + w))) (d.byte x i);
       }
 
+-- ---- a shard that is held, or none
+
+module _ (s : List ℕ) (h : Held) (p : ℕ) (d : Option Span) (row : List ℕ) (l : p < length h) where
+  pub held_added : (x : Span) (row₁ : List ℕ) → slice_index_or h p d ≡ Some x
+      → Row (λ y. plus (get_or row y 0) (behind 0 (take (x.at + x.size - x.at) (drop x.at s)) y)) (length row) row₁
+      → Row (λ y. plus (get_or row y 0) (get_or (shard_in s h p) y 0)) (length row) row₁
+  unfolding shard_in
+  held_added x row₁ e r =
+      let z : x.at + x.size - x.at ≡ x.size = omega arith in
+      rw (get_or_default h p None d l, e) (added_from_0 row (take x.size (drop x.at s)) row₁ (rw z at r))
+
+  pub none_added : slice_index_or h p d ≡ None → Row (λ y. plus (get_or row y 0) (get_or (shard_in s h p) y 0)) (length row) row
+  unfolding shard_in
+  none_added e = record { size = refl; byte = λ y m. rw (get_or_default h p None d l, e) (sym (plus_zero (get_or row y 0))) }
+
 -- ---- the other place that is lost
 
 pub other_passed : (h : ℕ → Bool) (i p : ℕ) → (h p || eqb p i) ≡ true → other h i (p + 1) ≡ other h i p
@@ -78,29 +97,93 @@ pub other_found : (h : ℕ → Bool) (i p : ℕ) → (h p || eqb p i) ≡ false 
 unfolding other
 other_found h i p e = rw (add-one, e)
 
+-- a place that was lost, and is found to be
+pub lost_some : (p n : ℕ) → Some p ≡ lost n → (p ≡ n) × (n ≡ 12 → ⊥)
+lost_some p n e = go (eqb n 12) refl e
+  where
+    go : (b : Bool) → eqb n 12 ≡ b → Some p ≡ cond b None (Some n) → (p ≡ n) × (n ≡ 12 → ⊥)
+    go true q f = absurd (cc)
+    go false q f = (cc, eqb-false n 12 q)
+
+pub place_lost : (o : Option ℕ) (n : ℕ) → o ≡ lost n → place o ≡ n
+place_lost None n e = go (eqb n 12) refl e
+  where
+    go : (b : Bool) → eqb n 12 ≡ b → None ≡ cond b None (Some n) → 12 ≡ n
+    go true q f = sym (eqb-true n 12 q)
+    go false q f = absurd (cc)
+place_lost (Some p) n e = (lost_some p n e).0
+
+pub lost_is : (t p : ℕ) → t ≡ p → p < 12 → Some p ≡ lost t
+lost_is t p e l = rw (e, ne_eqb p 12 (λ q. omega arith))
+
+pub lost_none : (h : ℕ → Bool) (i t p : ℕ) → t ≡ other h i p → p ≤ 0 → None ≡ lost t
+unfolding other
+lost_none h i t zero e l = rw e
+lost_none h i t (suc p) e l = absurd (omega arith)
+
+same_place : (o : Option ℕ) (p : ℕ) → p < 12 → option_eq eqb o (Some p) ≡ eqb p (place o)
+same_place None p l = sym (ne_eqb p 12 (λ q. omega arith))
+same_place (Some q) p l = go (eqb q p) refl
+  where
+    go : (b : Bool) → eqb q p ≡ b → eqb q p ≡ eqb p q
+    go true e = e ∙ sym (eq-eqb p q (sym (eqb-true q p e)))
+    go false e = e ∙ sym (ne_eqb p q (λ f. eqb-false q p e (sym f)))
+
+false_of : (b : Bool) → true ≡ not b → b ≡ false
+false_of true e = cc
+false_of false e = refl
+
+true_of : (b : Bool) → false ≡ not b → b ≡ true
+true_of true e = refl
+true_of false e = cc
+
+-- place p - 1, as it is tested
+module _ (h : Held) (i : Option ℕ) (p : ℕ) (d : Option Span) (pos : 0 < p) (l : p ≤ 10) (z : length h ≡ 12) where
+  here : is_some (slice_index_or h (p - 1) d) ≡ sized h (p - 1)
+  here = sized_at h (p - 1) d (omega arith)
+
+  there : option_eq eqb i (Some (p - 1)) ≡ eqb (p - 1) (place i)
+  there = same_place i (p - 1) (omega arith)
+
+  back : p - 1 + 1 ≡ p
+  back = omega arith
+
+  pub found_here : is_some (slice_index_or h (p - 1) d) ≡ false → true ≡ not (option_eq eqb i (Some (p - 1)))
+      → other (sized h) (place i) p ≡ p - 1
+  found_here a b = subst (λ (q : ℕ). other (sized h) (place i) q ≡ p - 1) back
+      (other_found (sized h) (place i) (p - 1) (rw (← here, a, ← there) (false_of _ b)))
+
+  pub passed_held : is_some (slice_index_or h (p - 1) d) ≡ true → other (sized h) (place i) p ≡ other (sized h) (place i) (p - 1)
+  passed_held a = subst (λ (q : ℕ). other (sized h) (place i) q ≡ other (sized h) (place i) (p - 1)) back
+      (other_passed (sized h) (place i) (p - 1) (rw (← here, a)))
+
+  pub passed_other : is_some (slice_index_or h (p - 1) d) ≡ false → false ≡ not (option_eq eqb i (Some (p - 1)))
+      → other (sized h) (place i) p ≡ other (sized h) (place i) (p - 1)
+  passed_other a b = subst (λ (q : ℕ). other (sized h) (place i) q ≡ other (sized h) (place i) (p - 1)) back
+      (other_passed (sized h) (place i) (p - 1) (rw (← here, a, ← there) (true_of _ b)))
+
 -- ---- one lost
 
 module _ (s : List ℕ) (h : Held) (inside : Inside s h) where
-  pub solved_first : (k i size n : ℕ) (row : List ℕ) → size ≡ get_or h.size k 0 → 0 < size → Row (rest 0 k (shard_in s h)) n row →
+  pub solved_first : (k i n : ℕ) (row : List ℕ) → sized h k ≡ true → Row (rest 0 k (shard_in s h)) n row →
       Row (solved k (shard_in s h) i 12) n row
   unfolding solved
-  solved_first k i size n row e l r = record { size = r.size; byte = λ x m. rw (sized_true s h inside k size e l) (r.byte x m) }
+  solved_first k i n row e r = record { size = r.size; byte = λ x m. rw (ap (λ (t : ℕ → Bool). t k) (has_sized s h inside) ∙ e) (r.byte x m) }
 
   pub solved_second :
-      (k i size n c d : ℕ) (row row₁ : List ℕ) →
-      size ≡ get_or h.size k 0 →
-      size ≤ 0 →
+      (k i n c d : ℕ) (row row₁ : List ℕ) →
+      sized h k ≡ false →
       c ≡ power i →
       d ≡ inverse c →
       Row (rest 1 k (shard_in s h)) n row →
       Row (λ x. mul d (get_or row x 0)) (length row) row₁ →
       Row (solved k (shard_in s h) i 12) n row₁
   unfolding solved
-  solved_second k i size n c d row row₁ e l ec ed r r₁ =
+  solved_second k i n c d row row₁ e ec ed r r₁ =
       record {
         size = r₁.size ∙ r.size;
         byte = λ x m.
-            rw (sized_false s h inside k size e l)
+            rw (ap (λ (t : ℕ → Bool). t k) (has_sized s h inside) ∙ e)
             (r₁.byte x (omega (arith, r.size)) ∙ ap₂ mul (ed ∙ ap inverse ec) (r.byte x m));
       }
 

@@ -1,8 +1,8 @@
 -- Steps of a scan: a frame checked, and its shard noted.
 -- Assumes nothing.
-use Rattle.std.specs.Prelude.{◌≡◌, Bool, ◌&&◌, ◌||◌, ℕ, zero, suc, ◌+◌, ◌-◌, ◌*◌, ◌≤◌, ◌<◌, leb, drop, set, replicate}
-use Rattle.std.proofs.Math.Path.{refl, ap, ap₂, subst}
-use Rattle.std.proofs.Common.{sym, ◌∙◌, add-one, length-set, drop_of_length-le, drop-cons, get_or-take, drop-drop}
+use Rattle.std.specs.Prelude.{◌≡◌, Bool, ◌&&◌, ◌||◌, ℕ, zero, suc, ◌+◌, ◌-◌, ◌≤◌, ◌<◌, leb, drop, set, replicate, slice_get, slice_index_or}
+use Rattle.std.proofs.Math.Path.{refl, ap, subst}
+use Rattle.std.proofs.Common.{sym, ◌∙◌, add-one, length-set, drop_of_length-le, drop-cons, drop-drop, Option, None, Some}
 use Rattle.std.proofs.Math.Bool.{true, false, cond}
 use mathlib.Core.List.{List, [], ◌∷◌}
 use native.Mathlib.Omega.{arith}
@@ -14,22 +14,11 @@ use Rattle.wire.specs.LittleEndian.{number_at}
 use Rattle.frames.specs.Lists.{parts, add_up, every}
 use Rattle.frames.specs.Frames.{type_at}
 use Rattle.frames.specs.Reading.{group_of, place_of, frame_ok, first_group, held_shard}
-use Rattle.frames.specs.PartLaws.{length_parts, part_at, add_up_next, add_up_le, length_part}
-use Rattle.wire.specs.LittleEndianLaws.{number_at_drop}
-use Rattle.parity_scan.specs.declared.Held.{Held}
-use Rattle.parity_scan.specs.declared.Scanned.{Scanned}
-use Rattle.parity_scan.specs.Held.{shard_in, sized, Inside, noted, Empty, Gathered, Scans}
+use Rattle.frames.specs.PartLaws.{Lies, lies, length_parts, length_part}
+use Rattle.parity_scan.specs.declared.held.Span.{Span}
+use Rattle.parity_scan.specs.Held.{Held, at_in, size_in, shard_in, sized, Inside, noted, Found}
 use Rattle.recovery.specs.ReadingLaws.{passes}
 use Rattle.parity_scan.specs.HeldLaws.{length_shard_in}
-
-number_at_take : (j n : ℕ) (l : List ℕ) (i : ℕ) → i + j ≤ n → number_at j (take n l) i ≡ number_at j l i
-unfolding number_at
-number_at_take zero n l i h = refl
-number_at_take (suc j) n l i h =
-    ap₂ (λ (a b : ℕ). a + 256 * b) (get_or-take n l i 0 (omega arith)) (number_at_take j n l (suc i) (omega arith))
-
-pub number_at_part : (j : ℕ) (s : List ℕ) (at n i : ℕ) → i + j ≤ n → number_at j (take n (drop at s)) i ≡ number_at j s (at + i)
-number_at_part j s at n i h = number_at_take j n (drop at s) i h ∙ number_at_drop j at s i
 
 pub type_data : (k p : ℕ) → p < k → type_at k p ≡ 241
 unfolding type_at
@@ -40,21 +29,20 @@ unfolding type_at
 type_parity k p h = rw (le-ltb p k h)
 
 pub frame_right :
-    (k mtu g : ℕ) (f : List ℕ) (n p q t u len : ℕ) →
-    length f ≡ n →
-    32 ≤ n →
+    (k mtu g : ℕ) (f : List ℕ) (p q t u len : ℕ) →
+    32 ≤ length f →
     p ≡ place_of k f →
     q ≡ group_of k f →
     t ≡ number_at 2 f 4 →
     u ≡ type_at k p →
     len ≡ number_at 2 f 6 →
-    (leb n (mtu + 8) && eqb q g && eqb t u && (leb k p || eqb len (n - 6))) ≡ frame_ok k mtu g f
+    (leb (length f) (mtu + 8) && eqb q g && eqb t u && (leb k p || eqb len (length f - 6))) ≡ frame_ok k mtu g f
 unfolding frame_ok
-frame_right k mtu g f n p q t u len el h ep eq et eu en = rw (eu, ep, eq, et, en, el, le-leb 32 n h)
+frame_right k mtu g f p q t u len h ep eq et eu en = rw (eu, ep, eq, et, en, le-leb 32 (length f) h)
 
-pub frame_short : (k mtu g : ℕ) (f : List ℕ) (n : ℕ) → length f ≡ n → n < 32 → false ≡ frame_ok k mtu g f
+pub frame_short : (k mtu g : ℕ) (f : List ℕ) → length f < 32 → false ≡ frame_ok k mtu g f
 unfolding frame_ok
-frame_short k mtu g f n el h = rw (el, lt-leb 32 n h)
+frame_short k mtu g f h = rw (lt-leb 32 (length f) h)
 
 -- ---- what is noted
 
@@ -83,59 +71,68 @@ pub record Seen (s ns : List ℕ) (k mtu g : ℕ) (h : Held) (at i : ℕ) : Type
   pub place : at ≡ add_up (take i ns)
   pub checked : every (frame_ok k mtu g) (parts s ns) ≡ every (frame_ok k mtu g) (drop i (parts s ns))
   pub inside : Inside s h
-  pub places : length h.at ≡ 12
-  pub sizes : length h.size ≡ 12
+  pub places : length h ≡ 12
   pub shards : (p : ℕ) → held_shard k (parts s ns) p ≡ nonempty (shard_in s h p) (held_shard k (drop i (parts s ns)) p)
 
-pub seen_none : (s ns : List ℕ) (k mtu g : ℕ) (h : Held) → Empty h → length h.at ≡ 12 → length h.size ≡ 12 → Seen s ns k mtu g h 0 0
+-- nothing is held
+abbrev none : Option Span
+none = None
+
+none_in : (n p : ℕ) → slice_index_or (replicate n none) p none ≡ none
+none_in zero p = refl
+none_in (suc n) zero = refl
+none_in (suc n) (suc p) = none_in n p
+
+pub seen_none : (s ns : List ℕ) (k mtu g : ℕ) → Seen s ns k mtu g (replicate 12 none) 0 0
 unfolding nonempty shard_in add_up
-seen_none s ns k mtu g h e a b = record {
+seen_none s ns k mtu g = record {
   within = omega arith;
   place = refl;
   checked = refl;
-  inside = record { inside = λ p. omega (arith, e.places p, e.sizes p) };
-  places = a;
-  sizes = b;
-  shards = λ p. rw (e.sizes p) refl;
+  inside = record { inside = λ p. rw (none_in 12 p) (omega arith) };
+  places = refl;
+  shards = λ p. rw (none_in 12 p) refl;
 }
 
-module _ (s ns : List ℕ) (k mtu g : ℕ) (h : Held) (at i n : ℕ) (seen : Seen s ns k mtu g h at i)
-    (whole : add_up ns ≤ length s) (more : i < length ns) (en : n ≡ get_or ns i 0) where
-  part_is : get_or (parts s ns) i [] ≡ take n (drop at s)
-  part_is = part_at s ns i more ∙ ap₂ (λ (m a : ℕ). take m (drop a s)) (sym en) (sym seen.place)
+module _ (s ns : List ℕ) (k mtu g : ℕ) (h : Held) (at i n : ℕ) (f : List ℕ) (seen : Seen s ns k mtu g h at i)
+    (whole : add_up ns ≤ length s) (more : i < length ns) (en : n ≡ get_or ns i 0) (ef : f ≡ take (at + n - at) (drop at s)) where
+  here : Lies s ns i at n
+  here = lies s ns i at n whole more seen.place en
+
+  part_is : get_or (parts s ns) i [] ≡ f
+  part_is = sym (ef ∙ here.part)
+
+  cut : f ≡ take n (drop at s)
+  cut = let e : at + n - at ≡ n = omega arith in ef ∙ ap (λ (m : ℕ). take m (drop at s)) e
+
+  length_given : length f ≡ n
+  length_given = ap length ef ∙ here.size
 
   more_cut : i < length (parts s ns)
   more_cut = rw (length_parts s ns) more
 
-  pub seen_room : at + n ≤ length s
-  seen_room =
-      let a : at ≡ add_up (take i ns) = seen.place in
-      omega (arith, add_up_next ns i more, add_up_le ns (i + 1))
+  pub seen_stop : false ≡ frame_ok k mtu g f → every (frame_ok k mtu g) (parts s ns) ≡ false
+  seen_stop e = seen.checked ∙ every_stop (frame_ok k mtu g) (parts s ns) i more_cut (ap (frame_ok k mtu g) part_is ∙ sym e)
 
-  pub seen_stop : frame_ok k mtu g (take n (drop at s)) ≡ false → every (frame_ok k mtu g) (parts s ns) ≡ false
-  seen_stop e = seen.checked ∙ every_stop (frame_ok k mtu g) (parts s ns) i more_cut (ap (frame_ok k mtu g) part_is ∙ e)
+  pub frame_long : true ≡ frame_ok k mtu g f → 32 ≤ n
+  frame_long e = rw length_given at (passes k mtu g f (sym e)).long
 
-  length_given : length (take n (drop at s)) ≡ n
-  length_given = length_part s at n seen_room
-
-  pub frame_long : frame_ok k mtu g (take n (drop at s)) ≡ true → 32 ≤ n
-  frame_long e = rw length_given at (passes k mtu g (take n (drop at s)) e).long
-
-  module _ (q : ℕ) (ok : frame_ok k mtu g (take n (drop at s)) ≡ true) (eq : q ≡ place_of k (take n (drop at s))) (lq : q < 12) where
+  module _ (q : ℕ) (x : Span) (ok : true ≡ frame_ok k mtu g f) (eq : q ≡ place_of k f) (lq : q < 12)
+      (ea : x.at ≡ at + 6) (es : x.size ≡ n - 6) where
     -- the frame's own shard
     own : List ℕ
     own = take (n - 6) (drop (at + 6) s)
 
-    own_is : drop 6 (take n (drop at s)) ≡ own
+    own_is : drop 6 f ≡ own
     unfolding own
-    own_is = drop_take 6 n (drop at s) ∙ ap (take (n - 6)) (drop-drop 6 at s)
+    own_is = ap (drop 6) cut ∙ drop_take 6 n (drop at s) ∙ ap (take (n - 6)) (drop-drop 6 at s)
 
     long : 32 ≤ n
     long = frame_long ok
 
     length_own : length own ≡ n - 6
     unfolding own
-    length_own = length_part s (at + 6) (n - 6) (let r : at + n ≤ length s = seen_room in let l : 32 ≤ n = long in omega arith)
+    length_own = length_part s (at + 6) (n - 6) (let r = here.within in let l : 32 ≤ n = long in omega arith)
 
     shard_cons : (p : ℕ) → held_shard k (drop i (parts s ns)) p ≡ cond (eqb q p) own (held_shard k (drop (i + 1) (parts s ns)) p)
     unfolding held_shard
@@ -143,48 +140,32 @@ module _ (s ns : List ℕ) (k mtu g : ℕ) (h : Held) (at i n : ℕ) (seen : See
         let m : i < length (parts s ns) = more_cut in
         rw (drop-cons (parts s ns) i [], part_is, ← eq, own_is, add-one)
 
-    old_inside : (p : ℕ) → get_or h.at p 0 + get_or h.size p 0 ≤ length s
-    old_inside p = seen.inside.inside p
-
     next : Held
-    next = record { at = set h.at q (at + 6); size = set h.size q (n - 6) }
+    next = set h q (Some x)
+
+    at_own : (p : ℕ) → q ≡ p → slice_index_or next p None ≡ Some x
+    unfolding next
+    at_own p e = let l : q < length h = rw seen.places lq in subst (λ (r : ℕ). slice_index_or (set h q (Some x)) r None ≡ Some x) e
+        (get_or-set_same h q (Some x) None l)
+
+    at_other : (p : ℕ) → (q ≡ p → ⊥) → slice_index_or next p None ≡ slice_index_or h p None
+    unfolding next
+    at_other p d = get_or-set_other h q p (Some x) None (λ e. d (sym e))
 
     next_own : (p : ℕ) → q ≡ p → shard_in s next p ≡ own
-    unfolding shard_in next own
-    next_own p e =
-        let a : q < length h.at = rw seen.places lq in
-        let b : q < length h.size = rw seen.sizes lq in
-        subst (λ (r : ℕ). take (get_or (set h.size q (n - 6)) r 0) (drop (get_or (set h.at q (at + 6)) r 0) s) ≡ take (n - 6)
-        (drop (at + 6) s)) e
-        (ap₂ (λ (x y : ℕ). take x (drop y s)) (get_or-set_same h.size q (n - 6) 0 b) (get_or-set_same h.at q (at + 6) 0 a))
+    unfolding shard_in own
+    next_own p e = rw (at_own p e, ea, es)
 
     next_other : (p : ℕ) → (q ≡ p → ⊥) → shard_in s next p ≡ shard_in s h p
-    unfolding shard_in next
-    next_other p d =
-        ap₂ (λ (x y : ℕ). take x (drop y s)) (get_or-set_other h.size q p (n - 6) 0 (λ e. d (sym e)))
-        (get_or-set_other h.at q p (at + 6) 0 (λ e. d (sym e)))
+    unfolding shard_in
+    next_other p d = rw (at_other p d)
 
-    next_inside : (p : ℕ) → get_or next.at p 0 + get_or next.size p 0 ≤ length s
-    unfolding next
+    next_inside : (p : ℕ) → at_in next p + size_in next p ≤ length s
     next_inside p = go (eqb q p) refl
       where
-        go : (b : Bool) → eqb q p ≡ b → get_or (set h.at q (at + 6)) p 0 + get_or (set h.size q (n - 6)) p 0 ≤ length s
-        go true e =
-            let z : q ≡ p = eqb-true q p e in
-            let a : q < length h.at = rw seen.places lq in
-            let b : q < length h.size = rw seen.sizes lq in
-            let r : at + n ≤ length s = seen_room in
-            let l : 32 ≤ n = long in
-            subst (λ (r : ℕ). get_or (set h.at q (at + 6)) r 0 + get_or (set h.size q (n - 6)) r 0 ≤ length s) z
-            (omega (arith, get_or-set_same h.size q (n - 6) 0 b, get_or-set_same h.at q (at + 6) 0 a))
-        go false e =
-            let d : q ≡ p → ⊥ = eqb-false q p e in
-            omega (
-              arith,
-              get_or-set_other h.size q p (n - 6) 0 (λ e. d (sym e)),
-              get_or-set_other h.at q p (at + 6) 0 (λ e. d (sym e)),
-              old_inside p,
-            )
+        go : (b : Bool) → eqb q p ≡ b → at_in next p + size_in next p ≤ length s
+        go true e = let r = here.within in let l : 32 ≤ n = long in rw (at_own p (eqb-true q p e), ea, es) (omega arith)
+        go false e = rw (at_other p (eqb-false q p e)) (seen.inside.inside p)
 
     -- one more frame seen, where its place had a shard
     had_shard : sized h q ≡ true → (p : ℕ)
@@ -196,7 +177,7 @@ module _ (s ns : List ℕ) (k mtu g : ℕ) (h : Held) (at i n : ℕ) (seen : See
         go : (b : Bool) → eqb q p ≡ b
             → cond (ltb 0 (length (shard_in s h p))) (shard_in s h p) (cond b own (held_shard k (drop (i + 1) (parts s ns)) p))
             ≡ cond (ltb 0 (length (shard_in s h p))) (shard_in s h p) (held_shard k (drop (i + 1) (parts s ns)) p)
-        go true f = rw (ap (λ (m : ℕ). ltb 0 m) (length_shard_in s h seen.inside p ∙ ap (λ (r : ℕ). get_or h.size r 0)
+        go true f = rw (ap (λ (m : ℕ). ltb 0 m) (length_shard_in s h seen.inside p ∙ ap (λ (r : ℕ). size_in h r)
             (sym (eqb-true q p f))) ∙ e)
         go false f = refl
 
@@ -212,107 +193,81 @@ module _ (s ns : List ℕ) (k mtu g : ℕ) (h : Held) (at i n : ℕ) (seen : See
             ≡ cond (ltb 0 (length (shard_in s next p))) (shard_in s next p) (held_shard k (drop (i + 1) (parts s ns)) p)
         go true f =
             let none : ltb 0 (length (shard_in s h p)) ≡ false =
-            ap (λ (m : ℕ). ltb 0 m) (length_shard_in s h seen.inside p ∙ ap (λ (r : ℕ). get_or h.size r 0) (sym (eqb-true q p f))) ∙ e in
+            ap (λ (m : ℕ). ltb 0 m) (length_shard_in s h seen.inside p ∙ ap (λ (r : ℕ). size_in h r) (sym (eqb-true q p f))) ∙ e in
             let l : 32 ≤ n = long in
             rw (none, next_own p (eqb-true q p f), lt-ltb 0 (length own) (omega (arith, length_own)))
         go false f = rw (next_other p (eqb-false q p f))
 
-    pub seen_next : Seen s ns k mtu g (noted h q (at + 6) (n - 6)) (at + n) (i + 1)
+    pub seen_next : Seen s ns k mtu g (noted h q x) (at + n) (i + 1)
     unfolding noted next
     seen_next = go (sized h q) refl
       where
         w : i + 1 ≤ length ns
         w = omega arith
 
-        a : at + n ≡ add_up (take (i + 1) ns)
-        a = let z : at ≡ add_up (take i ns) = seen.place in omega (arith, add_up_next ns i more)
-
         c : every (frame_ok k mtu g) (parts s ns) ≡ every (frame_ok k mtu g) (drop (i + 1) (parts s ns))
-        c = seen.checked ∙ every_cons (frame_ok k mtu g) (parts s ns) i more_cut (ap (frame_ok k mtu g) part_is ∙ ok)
+        c = seen.checked ∙ every_cons (frame_ok k mtu g) (parts s ns) i more_cut (ap (frame_ok k mtu g) part_is ∙ sym ok)
 
-        go : (b : Bool) → sized h q ≡ b
-            → Seen s ns k mtu g (cond b h (record { at = set h.at q (at + 6); size = set h.size q (n - 6) })) (at + n) (i + 1)
+        go : (b : Bool) → sized h q ≡ b → Seen s ns k mtu g (cond b h (set h q (Some x))) (at + n) (i + 1)
         go true e = record {
           within = w;
-          place = a;
+          place = here.next;
           checked = c;
           inside = seen.inside;
           places = seen.places;
-          sizes = seen.sizes;
           shards = λ p. seen.shards p ∙ had_shard e p;
         }
         go false e = record {
           within = w;
-          place = a;
+          place = here.next;
           checked = c;
           inside = record { inside = next_inside };
-          places = length-set h.at q (at + 6) ∙ seen.places;
-          sizes = length-set h.size q (n - 6) ∙ seen.sizes;
+          places = length-set h q (Some x) ∙ seen.places;
           shards = λ p. seen.shards p ∙ no_shard e p;
         }
 
 pub seen_all : (s ns : List ℕ) (k mtu g : ℕ) (h : Held) (at i : ℕ) → Seen s ns k mtu g h at i → length ns ≤ i
-    → (true ≡ every (frame_ok k mtu g) (parts s ns)) × Gathered s ns k h
+    → Found s ns k mtu g (record { group = g; held = h })
 unfolding every nonempty held_shard
 seen_all s ns k mtu g h at i seen l =
     let m : length (parts s ns) ≤ i = rw (length_parts s ns) l in
-    let e : drop i (parts s ns) ≡ [] = drop_of_length-le (parts s ns) m in (
-      sym (seen.checked ∙ ap (every (frame_ok k mtu g)) e),
-      record {
+    let e : drop i (parts s ns) ≡ [] = drop_of_length-le (parts s ns) m in
+    record {
+      right = seen.checked ∙ ap (every (frame_ok k mtu g)) e;
+      group = refl;
+      held = record {
         inside = seen.inside;
         shards = λ p. sym (seen.shards p ∙ ap (λ (fs : List (List ℕ)). nonempty (shard_in s h p) (held_shard k fs p)) e ∙ self
             (shard_in s h p));
-      },
-    )
+      };
+    }
   where
     self : (l : List ℕ) → cond (ltb 0 (length l)) l [] ≡ l
     self [] = refl
     self (x ∷ l) = rw (lt-ltb 0 (suc (length l)) (omega arith))
 
-pub scan_wrong : (s ns : List ℕ) (k mtu n g : ℕ) (h : Held) → every (frame_ok k mtu n) (parts s ns) ≡ false
-    → Scans s ns k mtu n (record { ok = false; group = g; held = h })
-scan_wrong s ns k mtu n g h e = record {
-  right = sym e;
-  group = λ z. let y : ◌≡◌ {A = ℕ} 0 1 = cc in absurd (omega arith);
-  held = λ z. let y : ◌≡◌ {A = ℕ} 0 1 = cc in absurd (omega arith);
-}
+-- ---- the first frame, o being the first length
 
-pub scan_right : (s ns : List ℕ) (k mtu n g : ℕ) (h : Held) → g ≡ n → (true ≡ every (frame_ok k mtu n) (parts s ns)) × Gathered s ns k h
-    → Scans s ns k mtu n (record { ok = true; group = g; held = h })
-scan_right s ns k mtu n g h q e = record { right = e.0; group = λ z. q; held = λ z. e.1 }
-
--- no frames
-pub scan_none : (s ns : List ℕ) (k mtu : ℕ) (h : Held) → Empty h → length h.at ≡ 12 → length h.size ≡ 12 → length ns ≡ 0
-    → Scans s ns k mtu (first_group k (parts s ns)) (record { ok = true; group = 0; held = h })
+pub first_none : (s ns : List ℕ) (k : ℕ) → None ≡ slice_get ns 0 → first_group k (parts s ns) ≡ 0
 unfolding first_group parts
-scan_none s [] k mtu h e a b z =
-    scan_right s [] k mtu 0 0 h refl (seen_all s [] k mtu 0 h 0 0 (seen_none s [] k mtu 0 h e a b) (omega arith))
-scan_none s (n ∷ ns) k mtu h e a b z = absurd (omega arith)
+first_none s [] k e = refl
+first_none s (n ∷ ns) k e = absurd (cc)
 
-first_is : (s ns : List ℕ) → 0 < length ns → (k : ℕ) → first_group k (parts s ns) ≡ group_of k (take (get_or ns 0 0) (drop 0 s))
+pub first_is : (s ns : List ℕ) (k m n g : ℕ) → Some m ≡ slice_get ns 0 → n ≡ m → g ≡ group_of k (take n s)
+    → first_group k (parts s ns) ≡ g
 unfolding first_group parts
-first_is s [] h k = absurd (omega arith)
-first_is s (n ∷ ns) h k = refl
+first_is s [] k m n g e en eg = absurd (cc)
+first_is s (q ∷ ns) k m n g e en eg = let z : n ≡ q = cc in rw z at (sym eg)
 
-pub scan_first : (s ns : List ℕ) (k mtu n g : ℕ) (r : Scanned) → 0 < length ns → n ≡ get_or ns 0 0 → g ≡ group_of k (take n (drop 0 s))
-    → Scans s ns k mtu g r
-    → Scans s ns k mtu (first_group k (parts s ns)) r
-scan_first s ns k mtu n g r h en eg f =
-    subst (λ (q : ℕ). Scans s ns k mtu q r) (eg ∙ ap (λ (m : ℕ). group_of k (take m (drop 0 s))) en ∙ sym (first_is s ns h k)) f
+pub first_within : (s ns : List ℕ) (m n : ℕ) → add_up ns ≤ length s → Some m ≡ slice_get ns 0 → n ≡ m → n ≤ length s
+unfolding add_up
+first_within s [] m n w e en = absurd (cc)
+first_within s (q ∷ ns) m n w e en = let z : n ≡ q = cc in omega arith
 
-pub first_short : (s ns : List ℕ) (k mtu n : ℕ) (h : Held) → add_up ns ≤ length s → 0 < length ns → n ≡ get_or ns 0 0 → n < 32
-    → Scans s ns k mtu (first_group k (parts s ns)) (record { ok = false; group = 0; held = h })
+pub first_short : (s ns : List ℕ) (k mtu g m n : ℕ) → add_up ns ≤ length s → Some m ≡ slice_get ns 0 → n ≡ m → n < 32
+    → every (frame_ok k mtu g) (parts s ns) ≡ false
 unfolding parts every add_up
-first_short s [] k mtu n h w l e z = absurd (omega arith)
-first_short s (m ∷ ns) k mtu n h w l e z =
-    scan_wrong s (m ∷ ns) k mtu (first_group k (take m s ∷ parts (drop m s) ns)) 0 h
-    (rw (sym (frame_short k mtu (first_group k (take m s ∷ parts (drop m s) ns)) (take m s) m (length_part s 0 m (omega arith))
-    (omega arith))))
-
-zeros : (n p : ℕ) → ◌≡◌ {A = ℕ} (get_or (replicate n 0) p 0) 0
-zeros zero p = refl
-zeros (suc n) zero = refl
-zeros (suc n) (suc p) = zeros n p
-
-pub empty_held : Empty (record { at = replicate 12 0; size = replicate 12 0 })
-empty_held = record { places = λ p. zeros 12 p; sizes = λ p. zeros 12 p }
+first_short s [] k mtu g m n w e en z = absurd (cc)
+first_short s (q ∷ ns) k mtu g m n w e en z =
+    let y : n ≡ q = cc in
+    rw (sym (frame_short k mtu g (take q s) (omega (arith, length_part s 0 q (omega arith)))))

@@ -3,7 +3,7 @@
 use Rattle.std.specs.Prelude.{◌≡◌, true, false, ◌&&◌, List, ℕ, ◌+◌, ◌*◌, ◌≤◌, ◌<◌, eqb, leb}
 use Rattle.std.proofs.Math.Path.{sym}
 use Rattle.std.proofs.Common.{◌∙◌, mul-le-mul_right, arith}
-use borrow.Author.Tests.{leb-true, eqb-true, le-leb, lt-leb}
+use borrow.Author.Tests.{leb-true, eqb-true, eq-eqb, ne_eqb, le-leb, lt-leb}
 use Rattle.std.proofs.Math.ListN.{length}
 use Rattle.frames.specs.declared.Refusal.TheVariants.{ShortPart, SettingOutOfRange, NotAGroup, LateGroup}
 use Rattle.frames.specs.Lists.{parts, add_up, largest}
@@ -18,6 +18,17 @@ pub product_fits : (a b : ℕ) → a < 4294967296 → b < 4294967298 → a * b <
 product_fits a b ha hb =
     let l : a ≤ 4294967295 = omega arith in
     omega (arith, mul-le-mul_right b l)
+
+-- as many lengths as k, each right
+module _ (ns : List ℕ) (j k m mtu : ℕ) (ek : j ≡ k) (em : m ≡ mtu) where
+  pub right : length ns ≡ j → true ≡ lengths_ok m ns → (eqb (length ns) k && lengths_ok mtu ns) ≡ true
+  right e f = rw (← em, ← f, ← ek, eq-eqb (length ns) j e)
+
+  pub wrong_count : (length ns ≡ j → ⊥) → (eqb (length ns) k && lengths_ok mtu ns) ≡ false
+  wrong_count d = rw (← ek, ne_eqb (length ns) j d)
+
+  pub wrong_lengths : length ns ≡ j → false ≡ lengths_ok m ns → (eqb (length ns) k && lengths_ok mtu ns) ≡ false
+  wrong_lengths e f = rw (← em, ← f, ← ek, eq-eqb (length ns) j e)
 
 module _ (n k mtu : ℕ) (s ns : List ℕ) (room slots : ℕ) where
   pub write_7 : lent_ok (length s) ns 12 (mtu + 8) room slots ≡ false → write_of n k mtu s ns room slots ≡ refused ShortPart

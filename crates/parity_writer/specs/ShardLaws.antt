@@ -1,6 +1,6 @@
 -- Steps of the parity shards: a data shard added to a row, and the row from the last place to the first.
 -- Assumes nothing.
-use Rattle.std.specs.Prelude.{◌≡◌, get_or, take, drop, set}
+use Rattle.std.specs.Prelude.{◌≡◌, get_or, take, set}
 use Rattle.std.proofs.Common.{sym, ◌∙◌, le-ltb}
 use Rattle.std.proofs.Math.Path.{ap, ap₂}
 use mathlib.Core.List.{List, []}
@@ -14,7 +14,7 @@ use Rattle.galois.specs.FieldLaws.{plus_zero}
 use Rattle.rows.specs.Rows.{Row, behind, stepped}
 use Rattle.frames.specs.Lists.{total, parts, lengths_of, add_up, largest}
 use Rattle.frames.specs.Frames.{shard, longest, weight, parity_byte, parity_shard}
-use Rattle.frames.specs.PartLaws.{add_up_next, length_parts, lengths_parts, part_at, parts_bytes}
+use Rattle.frames.specs.PartLaws.{add_up_next, length_parts, lengths_parts, parts_bytes}
 use Rattle.frames.specs.FrameLaws.{shard_low, shard_high, shard_byte_lem, shard_bytes}
 use Rattle.frames.specs.WeightLaws.{tail, row_listed, row_same, steps_none, steps_next, steps_done}
 
@@ -54,10 +54,13 @@ module _ (was d : List ℕ) (n v w : ℕ) (size : length d ≡ n) (room : n + 2 
 
 -- ---- the row from the last place to the first
 
-pub add_up_back : (ns : List ℕ) (p : ℕ) → 0 < p → p ≤ length ns → add_up (take p ns) ≡ add_up (take (p - 1) ns) + get_or ns (p - 1) 0
-add_up_back ns p h l =
+pub add_up_back : (ns : List ℕ) (p from n : ℕ) → 0 < p → p ≤ length ns → from ≡ add_up (take p ns) → n ≡ get_or ns (p - 1) 0
+    → (n ≤ from) × (from - n ≡ add_up (take (p - 1) ns))
+add_up_back ns p from n h l ef en =
     let e : p ≡ p - 1 + 1 = omega arith in
-    ap (λ (q : ℕ). add_up (take q ns)) e ∙ add_up_next ns (p - 1) (omega arith)
+    let a : add_up (take p ns) ≡ add_up (take (p - 1) ns) + get_or ns (p - 1) 0 =
+    ap (λ (q : ℕ). add_up (take q ns)) e ∙ add_up_next ns (p - 1) (omega arith) in
+    (omega arith, omega arith)
 
 -- byte x of the data shard at place q
 abbrev pub shard_byte : List ℕ → List ℕ → ℕ → ℕ → ℕ
@@ -72,21 +75,18 @@ module _ (w : ℕ) (s ns : List ℕ) (bytes : AllBytes s) where
   parity_none = steps_none w (shard_byte s ns) small (length ns)
 
   pub parity_next :
-      (p q from n size : ℕ) (row row₁ row₂ : List ℕ) →
+      (p q size : ℕ) (d row row₁ row₂ : List ℕ) →
       p ≡ q + 1 →
       q < length ns →
-      from ≡ add_up (take q ns) →
-      n ≡ get_or ns q 0 →
+      d ≡ get_or (parts s ns) q [] →
       Row (λ x. tail w (shard_byte s ns x) p (length ns)) size row →
       Row (λ x. stepped w (get_or row x 0)) (length row) row₁ →
-      Row (λ x. plus (get_or row₁ x 0) (get_or (shard (take n (drop from s))) x 0)) (length row₁) row₂ →
+      Row (λ x. plus (get_or row₁ x 0) (get_or (shard d) x 0)) (length row₁) row₂ →
       Row (λ x. tail w (shard_byte s ns x) q (length ns)) size row₂
-  parity_next p q from n size row row₁ row₂ ep l ef en r r₁ r₂ =
+  parity_next p q size d row row₁ row₂ ep l ed r r₁ r₂ =
       steps_next w (shard_byte s ns) small (length ns) p q size row row₁ row₂ ep l r r₁
-      (row_same (λ x. plus (get_or row₁ x 0) (get_or (shard (take n (drop from s))) x 0)) (λ x. plus (get_or row₁ x 0) (shard_byte s ns x q))
-      (length row₁) row₂
-      (λ x m. ap (λ (d : List ℕ). plus (get_or row₁ x 0) (get_or (shard d) x 0))
-      (ap₂ (λ (i j : ℕ). take i (drop j s)) en ef ∙ sym (part_at s ns q l))) r₂)
+      (row_same (λ x. plus (get_or row₁ x 0) (get_or (shard d) x 0)) (λ x. plus (get_or row₁ x 0) (shard_byte s ns x q))
+      (length row₁) row₂ (λ x m. ap (λ (e : List ℕ). plus (get_or row₁ x 0) (get_or (shard e) x 0)) ed) r₂)
 
   pub parity_done : (p : ℕ) (row : List ℕ) → add_up ns ≤ length s → p ≤ 0
       → Row (λ x. tail w (shard_byte s ns x) p (length ns)) (largest ns + 2) row →

@@ -1,9 +1,9 @@
 -- Steps of the writer: the data frames, one behind the other, and the parity frames behind them.
 -- Assumes nothing.
-use Rattle.std.specs.Prelude.{◌≡◌, refl, ℕ, zero, suc, ◌+◌, ◌-◌, ◌*◌, ◌≤◌, ◌<◌, get_or, take, drop, set}
+use Rattle.std.specs.Prelude.{◌≡◌, refl, ℕ, zero, suc, ◌+◌, ◌-◌, ◌*◌, ◌≤◌, ◌<◌, get_or, take, set}
 use Rattle.std.proofs.Math.Path.{sym, ap}
 use Rattle.std.proofs.Common.{ap₂, ◌∙◌, subst, add-one, lt-ltb, le-ltb, length-set, drop-drop, take_all}
-use mathlib.Core.List.{List, append_assoc}
+use mathlib.Core.List.{List, [], append_assoc}
 use native.Mathlib.Omega.{arith}
 use Rattle.std.proofs.Math.ListN.{length}
 use borrow.Rule.Slice.PartMut.{put_mid}
@@ -15,46 +15,28 @@ use Rattle.wire.specs.Stores.{sets_append}
 use Rattle.frames.specs.Lists.{listed, joined, lengths_of, parts, add_up, largest}
 use Rattle.frames.specs.Frames.{shard, longest, parity_byte, parity_shard, type_at, shard_at, frame, frame_at, group}
 use Rattle.frames.specs.PlaceLaws.{length_listed}
-use Rattle.frames.specs.PartLaws.{
-  length_parts,
-  part_at,
-  add_up_next,
-  add_up_le,
-  length_part,
-  stored,
-  noted,
-  lengths_parts,
-  length_joined_next,
-}
+use Rattle.frames.specs.PartLaws.{length_parts, add_up_next, lies, stored, noted, lengths_parts, length_joined_next}
 use Rattle.frames.specs.FrameLaws.{length_shard, length_parity_shard, shard_at_data, shard_at_parity, length_frame}
 
 -- ---- the data frames
 
-pub data_frame : (start : ℕ) (s ns : List ℕ) (p from n seq : ℕ) → p < length ns → from ≡ add_up (take p ns) → n ≡ get_or ns p 0 → seq ≡ start
-    + p
-    → frame seq 241 (shard (take n (drop from s))) ≡ frame_at start (parts s ns) p
+pub data_frame : (start : ℕ) (ds : List (List ℕ)) (p : ℕ) → p < length ds → frame (start + p) 241 (shard (get_or ds p [])) ≡ frame_at start ds p
 unfolding frame_at type_at
-data_frame start s ns p from n seq h ef en es =
-    let l : p < length (parts s ns) = rw (length_parts s ns) h in
-    rw (lt-ltb p (length (parts s ns)) l)
-    (ap₂ (λ (q : ℕ) (c : List ℕ). frame q 241 c) es
-    (ap shard (ap₂ (λ (m f : ℕ). take m (drop f s)) en ef ∙ sym (part_at s ns p h)) ∙ sym (shard_at_data (parts s ns) p l)))
+data_frame start ds p l = rw (lt-ltb p (length ds) l) (ap (frame (start + p) 241) (sym (shard_at_data ds p l)))
 
-pub length_data : (start : ℕ) (s ns : List ℕ) (p : ℕ) → add_up ns ≤ length s → add_up (take (p + 1) ns) ≤ add_up ns → p < length ns
+pub length_data : (start : ℕ) (s ns : List ℕ) (p : ℕ) → add_up ns ≤ length s → p < length ns
     → length (frame_at start (parts s ns) p) ≡ get_or ns p 0 + 8
-length_data start s ns p w m h =
-    let e : add_up (take (p + 1) ns) ≡ add_up (take p ns) + get_or ns p 0 = add_up_next ns p h in
-    ap length (sym (data_frame start s ns p (add_up (take p ns)) (get_or ns p 0) (start + p) h refl refl refl))
-    ∙ length_frame (start + p) 241 (shard (take (get_or ns p 0) (drop (add_up (take p ns)) s)))
-    ∙ ap (λ (x : ℕ). 6 + x) (length_shard (take (get_or ns p 0) (drop (add_up (take p ns)) s)) ∙ ap (λ (x : ℕ). x + 2)
-    (length_part s (add_up (take p ns)) (get_or ns p 0) (omega arith)))
-    ∙ omega arith
+length_data start s ns p w h =
+    let l = lies s ns p (add_up (take p ns)) (get_or ns p 0) w h refl refl in
+    let m : p < length (parts s ns) = rw (length_parts s ns) h in
+    let d = get_or (parts s ns) p [] in
+    ap length (sym (data_frame start (parts s ns) p m)) ∙ length_frame (start + p) 241 (shard d)
+    ∙ omega (arith, length_shard d, ap length l.part, l.size)
 
 -- what stands after p data frames
-pub record Filled (start : ℕ) (s ns out₀ lens₀ out lens : List ℕ) (seq from at p : ℕ) : Type 0 where
+pub record Filled (start : ℕ) (s ns out₀ lens₀ out lens : List ℕ) (from at p : ℕ) : Type 0 where
   pub within : p ≤ length ns
   pub read : from ≡ add_up (take p ns)
-  pub numbered : seq ≡ start + p
   pub place : at ≡ from + 8 * p
   pub room : length out ≡ length out₀
   pub slots : length lens ≡ length lens₀
@@ -62,13 +44,12 @@ pub record Filled (start : ℕ) (s ns out₀ lens₀ out lens : List ℕ) (seq f
   pub bytes : out ≡ sets out₀ 0 (joined (listed (frame_at start (parts s ns)) p))
   pub lengths : lens ≡ sets lens₀ 0 (lengths_of (listed (frame_at start (parts s ns)) p))
 
-pub filled_none : (start : ℕ) (s ns out lens : List ℕ) → Filled start s ns out lens out lens start 0 0 0
+pub filled_none : (start : ℕ) (s ns out lens : List ℕ) → Filled start s ns out lens out lens 0 0 0
 unfolding listed joined lengths_of add_up
 filled_none start s ns out lens =
     record {
       within = omega arith;
       read = refl;
-      numbered = omega arith;
       place = omega arith;
       room = refl;
       slots = refl;
@@ -77,48 +58,55 @@ filled_none start s ns out lens =
       lengths = refl;
     }
 
-pub filled_next : (start : ℕ) (s ns out₀ lens₀ out lens next : List ℕ) (seq from at p n v : ℕ)
-    → Filled start s ns out₀ lens₀ out lens seq from at p
-    → add_up ns ≤ length s → p < length ns → n ≡ get_or ns p 0 → v ≡ get_or ns p 0 + 8
-    → next ≡ sets out at (frame seq 241 (shard (take n (drop from s))))
-    → Filled start s ns out₀ lens₀ next (set lens p v) (seq + 1) (from + n) (at + (n + 8)) (p + 1)
-filled_next start s ns out₀ lens₀ out lens next seq from at p n v f w h en ev e =
-    let a : add_up (take (p + 1) ns) ≡ add_up (take p ns) + get_or ns p 0 = add_up_next ns p h in
-    let r : from ≡ add_up (take p ns) = f.read in
-    let q : seq ≡ start + p = f.numbered in
+pub filled_next : (start : ℕ) (s ns out₀ lens₀ out lens next d : List ℕ) (from at p n v : ℕ)
+    → Filled start s ns out₀ lens₀ out lens from at p
+    → add_up ns ≤ length s → p < length ns → n ≡ get_or ns p 0 → v ≡ n + 8
+    → d ≡ get_or (parts s ns) p [] → next ≡ sets out at (frame (start + p) 241 (shard d))
+    → Filled start s ns out₀ lens₀ next (set lens p v) (from + n) (at + (n + 8)) (p + 1)
+filled_next start s ns out₀ lens₀ out lens next d from at p n v f w h en ev ed e =
+    let l = lies s ns p from n w h f.read en in
     let t : at ≡ from + 8 * p = f.place in
     let z : at ≡ length (joined (listed (frame_at start (parts s ns)) p)) = f.end in
-    let g : length (frame_at start (parts s ns) p) ≡ get_or ns p 0 + 8 = length_data start s ns p w (add_up_le ns (p + 1)) h in
+    let g : length (frame_at start (parts s ns) p) ≡ get_or ns p 0 + 8 = length_data start s ns p w h in
+    let m : p < length (parts s ns) = rw (length_parts s ns) h in
     record {
       within = omega arith;
-      read = omega arith;
-      numbered = omega arith;
+      read = l.next;
       place = omega arith;
-      room = ap length e ∙ length-sets out at (frame seq 241 (shard (take n (drop from s)))) ∙ f.room;
+      room = ap length e ∙ length-sets out at (frame (start + p) 241 (shard d)) ∙ f.room;
       slots = length-set lens p v ∙ f.slots;
       end = omega (arith, length_joined_next (frame_at start (parts s ns)) p);
       bytes = stored (frame_at start (parts s ns)) p at out₀ out next f.bytes f.end
-          (e ∙ ap (sets out at) (data_frame start s ns p from n seq h r en q));
-      lengths = noted (frame_at start (parts s ns)) p v lens₀ lens f.lengths (ev ∙ sym g);
+          (e ∙ ap (λ (x : List ℕ). sets out at (frame (start + p) 241 (shard x))) ed
+          ∙ ap (sets out at) (data_frame start (parts s ns) p m));
+      lengths = noted (frame_at start (parts s ns)) p v lens₀ lens f.lengths (omega arith);
     }
+
+-- what is lent as a part, and comes back as ys, is stored
+mid_stored : (a k : ℕ) (xs ys : List ℕ) → length ys ≡ k → a + k ≤ length xs → put_mid a k xs ys ≡ sets xs a ys
+mid_stored a k xs ys e h = sym (sets-eq ys xs a (rw e h) ∙ rw (e, append_assoc, ← drop-drop))
 
 -- a head and a shard, stored one behind the other
 pub data_stored :
-    (seq at n : ℕ) (d o₀ o₁ o₂ o₃ o₄ : List ℕ) →
-    length d ≡ n →
+    (seq at : ℕ) (d o₀ o₁ o₂ o₃ ys : List ℕ) →
+    at + 8 + length d ≤ length o₀ →
     o₁ ≡ sets o₀ at (bytes_of 4 seq) →
     o₂ ≡ sets o₁ (at + 4) (bytes_of 2 241) →
-    o₃ ≡ sets o₂ (at + 6) (bytes_of 2 (n + 2)) →
-    o₄ ≡ sets o₃ (at + 8) d →
-    o₄ ≡ sets o₀ at (frame seq 241 (shard d))
+    o₃ ≡ sets o₂ (at + 6) (bytes_of 2 (length d + 2)) →
+    ys ≡ d →
+    put_mid (at + 8) (at + 8 + length d - (at + 8)) o₃ ys ≡ sets o₀ at (frame seq 241 (shard d))
 unfolding frame shard
-data_stored seq at n d o₀ o₁ o₂ o₃ o₄ l e₁ e₂ e₃ e₄ =
+data_stored seq at d o₀ o₁ o₂ o₃ ys h e₁ e₂ e₃ e₄ =
     let p : at + 4 + 2 ≡ at + 6 = omega arith in
     let q : at + 6 + 2 ≡ at + 8 = omega arith in
-    e₄
-    ∙ ap (λ (o : List ℕ). sets o (at + 8) d) (e₃ ∙ ap (λ (o : List ℕ). sets o (at + 6) (bytes_of 2 (n + 2)))
+    let l : length o₃ ≡ length o₀ =
+    ap length e₃ ∙ length-sets o₂ (at + 6) (bytes_of 2 (length d + 2))
+    ∙ ap length e₂ ∙ length-sets o₁ (at + 4) (bytes_of 2 241) ∙ ap length e₁ ∙ length-sets o₀ at (bytes_of 4 seq) in
+    mid_stored (at + 8) (at + 8 + length d - (at + 8)) o₃ ys (ap length e₄ ∙ omega arith) (omega arith)
+    ∙ ap (sets o₃ (at + 8)) e₄
+    ∙ ap (λ (o : List ℕ). sets o (at + 8) d) (e₃ ∙ ap (λ (o : List ℕ). sets o (at + 6) (bytes_of 2 (length d + 2)))
     (e₂ ∙ ap (λ (o : List ℕ). sets o (at + 4) (bytes_of 2 241)) e₁))
-    ∙ sym (rw l (simp (sets_append, length_bytes_of) (rw (p, q))))
+    ∙ sym (simp (sets_append, length_bytes_of) (rw (p, q)))
 
 pub parity_stored : (seq at : ℕ) (c o₀ o₁ o₂ o₃ : List ℕ) → o₁ ≡ sets o₀ at (bytes_of 4 seq) → o₂ ≡ sets o₁ (at + 4) (bytes_of 2 242)
     → o₃ ≡ sets o₂ (at + 6) c → o₃ ≡ sets o₀ at (frame seq 242 c)
@@ -127,10 +115,6 @@ parity_stored seq at c o₀ o₁ o₂ o₃ e₁ e₂ e₃ =
     let p : at + 4 + 2 ≡ at + 6 = omega arith in
     e₃ ∙ ap (λ (o : List ℕ). sets o (at + 6) c) (e₂ ∙ ap (λ (o : List ℕ). sets o (at + 4) (bytes_of 2 242)) e₁)
     ∙ sym (simp (sets_append, length_bytes_of) (rw p))
-
--- what is lent as a part, and comes back as ys, is stored
-mid_stored : (a k : ℕ) (xs ys : List ℕ) → length ys ≡ k → a + k ≤ length xs → put_mid a k xs ys ≡ sets xs a ys
-mid_stored a k xs ys e h = sym (sets-eq ys xs a (rw e h) ∙ rw (e, append_assoc, ← drop-drop))
 
 pub parity_lent :
     (seq at w size : ℕ) (s ns o₀ o₁ o₂ ys : List ℕ) →
@@ -149,12 +133,12 @@ parity_lent seq at w size s ns o₀ o₁ o₂ ys whole e room e₁ e₂ e₃ =
     parity_stored seq at (parity_shard w (parts s ns)) o₀ o₁ o₂ _ e₁ e₂
     (mid_stored (at + 6) (at + 6 + (size + 2) - (at + 6)) o₂ ys (omega arith) (omega arith) ∙ ap (sets o₂ (at + 6)) e₃)
 
-pub filled_end : (start : ℕ) (s ns out₀ lens₀ out lens : List ℕ) (seq from at p : ℕ) → Filled start s ns out₀ lens₀ out lens seq from at p
+pub filled_end : (start : ℕ) (s ns out₀ lens₀ out lens : List ℕ) (from at p : ℕ) → Filled start s ns out₀ lens₀ out lens from at p
     → length ns ≤ p
     → (at ≡ add_up ns + 8 * length ns)
     × (out ≡ sets out₀ 0 (joined (listed (frame_at start (parts s ns)) (length ns))))
     × (lens ≡ sets lens₀ 0 (lengths_of (listed (frame_at start (parts s ns)) (length ns))))
-filled_end start s ns out₀ lens₀ out lens seq from at p f h =
+filled_end start s ns out₀ lens₀ out lens from at p f h =
     let l : p ≤ length ns = f.within in
     let e : p ≡ length ns = omega arith in
     let t : at ≡ from + 8 * p = f.place in
@@ -174,7 +158,7 @@ length_all_data start s ns w (suc p) h =
     let a : add_up (take (p + 1) ns) ≡ add_up (take p ns) + get_or ns p 0 = add_up_next ns p (omega arith) in
     let b : length (joined (listed (frame_at start (parts s ns)) p)) ≡ add_up (take p ns) + 8 * p =
     length_all_data start s ns w p (omega arith) in
-    let c : length (frame_at start (parts s ns) p) ≡ get_or ns p 0 + 8 = length_data start s ns p w (add_up_le ns (p + 1)) (omega arith) in
+    let c : length (frame_at start (parts s ns) p) ≡ get_or ns p 0 + 8 = length_data start s ns p w (omega arith) in
     let d : length (joined (listed (frame_at start (parts s ns)) (p + 1))) ≡ length (joined (listed (frame_at start (parts s ns)) p))
     + length (frame_at start (parts s ns) p) =
     length_joined_next (frame_at start (parts s ns)) p in

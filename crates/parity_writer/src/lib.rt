@@ -11,32 +11,27 @@ ghost use Rattle.frames.specs.Frames.{group};
 ghost use Rattle.frames.specs.Outcomes.{Gives, write_of};
 ghost use Rattle.parity_writer.specs.Room.{Fits};
 
-use frames::{Answer, Frames, Refusal, lent};
+use frames::lent::{self, Packed};
+use frames::{Answer, Frames, Refusal, Shape};
 
 // The whole group.
-fn put_group(start: u32, s: &[u8], lengths: &[u16], out: &mut [u8], out_lengths: &mut [u16])
-    requires { Fits start s.now lengths.now (length out.old) (length out_lengths.old) }
-    ensures bytes { out.new
-        ≡ sets out.old 0 (joined (group start (parts s.now lengths.now))) }
-    ensures lengths { out_lengths.new
-        ≡ sets out_lengths.old 0 (lengths_of (group start (parts s.now lengths.now))) }
+fn put_group<'a>(start: u32, datagrams: Packed<'a>, out: &mut [u8], out_lengths: &mut [u16])
+    requires { Fits start datagrams.bytes.now datagrams.lengths.now (length out.old) (length out_lengths.old) }
+    ensures bytes { let ds = parts datagrams.entry.bytes.now datagrams.entry.lengths.now in
+        out.new ≡ sets out.old 0 (joined (group start ds)) }
+    ensures lengths { let ds = parts datagrams.entry.bytes.now datagrams.entry.lengths.now in
+        out_lengths.new ≡ sets out_lengths.old 0 (lengths_of (group start ds)) }
 {
-    let k = lengths.len();
-    let most = shards::largest_of(lengths);
-    let at = data::put_all_data(start, s, lengths, out, out_lengths);
+    let k = datagrams.lengths.len();
+    let most = shards::largest_of(datagrams.lengths);
+    let at = data::put_all_data(start, datagrams, out, out_lengths);
     let total = at - Frames::HEADER * k;
-    let sequence = start + (k as u32);
-    let second = at + lent::wide(most) + Frames::HEADER;
-    shards::put_parity(out, at, sequence, 0, s, lengths, total);
-    shards::put_parity(out, second, sequence + 1, 1, s, lengths, total);
+    let sequence = start + k as u32;
+    let second = at + usize::from(most) + Frames::HEADER;
+    shards::put_parity(out, at, sequence, 0, datagrams, total);
+    shards::put_parity(out, second, sequence + 1, 1, datagrams, total);
     out_lengths[k] = most + 8;
     out_lengths[k + 1] = most + 8;
-}
-
-fn wide(x: u32) -> usize
-    ensures { result ≡ x }
-{
-    x as usize
 }
 
 // Group `group` of k datagrams, each of 24 to mtu bytes: k data frames and two parity frames, packed in `out`, with their lengths.
@@ -55,34 +50,23 @@ pub fn write_group(
         (length out.old) (length out_lengths.old))
         out.old out_lengths.old result out.new out_lengths.new }
 {
-    let each = wide(mtu) + Frames::HEADER;
-    let lent = lent::lent_ok(
-        datagrams.len(),
+    let each = mtu as usize + Frames::HEADER;
+    let datagrams = Packed::new(
+        datagrams,
         lengths,
         Frames::FRAMES_MOST,
         each,
         out.len(),
         out_lengths.len(),
-    );
-    if lent {
-        let settings = lent::settings_ok(wide(k), wide(mtu));
-        if settings {
-            let right = (lengths.len() == wide(k)) & lent::lengths_ok(wide(mtu), lengths);
-            if right {
-                let start = (group as u64) * ((k as u64) + 2);
-                if start < Frames::GROUPS_END {
-                    put_group(start as u32, datagrams, lengths, out, out_lengths);
-                    Answer::Written(wide(k) + 2)
-                } else {
-                    Answer::Refused(Refusal::LateGroup)
-                }
-            } else {
-                Answer::Refused(Refusal::NotAGroup)
-            }
-        } else {
-            Answer::Refused(Refusal::SettingOutOfRange)
-        }
-    } else {
-        Answer::Refused(Refusal::ShortPart)
+    )?;
+    let shape = Shape::new(k, mtu)?;
+    if lengths.len() != shape.k || !lent::lengths_ok(shape.mtu, lengths) {
+        return Err(Refusal::NotAGroup);
     }
+    let start = u64::from(group) * (u64::from(k) + 2);
+    if Frames::GROUPS_END <= start {
+        return Err(Refusal::LateGroup);
+    }
+    put_group(start as u32, datagrams, out, out_lengths);
+    Ok(shape.k + 2)
 }

@@ -21,7 +21,6 @@ use Rattle.script.specs.declared.Command.TheVariants.{
   Poke,
   Hold,
   Rec,
-  Malformed,
 }
 use Rattle.bench.specs.declared.Bench.{Bench}
 use Rattle.playing.specs.declared.Played.{Played}
@@ -71,7 +70,6 @@ no_tool (Lend part count) b text x text' h p = absurd (h.lend part count refl)
 no_tool (Poke field value) b text x text' h p = absurd (h.poke field value refl)
 no_tool (Hold list index field value) b text x text' h p = absurd (h.hold list index field value refl)
 no_tool (Rec slot number due timeout skips) b text x text' h p = absurd (h.rec slot number due timeout skips refl)
-no_tool Malformed b text x text' h p = p
 
 pub no_call : (c : Command) (b : Bench) (s r a bytes text : List ℕ) (x : Played) (s' r' a' text' : List ℕ)
     → NoCall c → Untouched s r a s' r' a' → PlaysTool c b text x text' → PlaysOnLink c b s r a bytes text x s' r' a' text'
@@ -91,4 +89,3 @@ no_call (Lend part count) b s r a bytes text x s' r' a' text' h u p = (u, p)
 no_call (Poke field value) b s r a bytes text x s' r' a' text' h u p = (u, p)
 no_call (Hold list index field value) b s r a bytes text x s' r' a' text' h u p = (u, p)
 no_call (Rec slot number due timeout skips) b s r a bytes text x s' r' a' text' h u p = (u, p)
-no_call Malformed b s r a bytes text x s' r' a' text' h u p = (u, p)

@@ -2,7 +2,7 @@
 -- b is the bench before the command, s, r and a are send pool, receive pool and ack list, and text is where the answer goes;
 -- x is what is given, and s', r', a' and text' are the parts and the text after it.
 -- Assumes nothing.
-use Rattle.std.specs.Prelude.{◌≡◌, true, false, List, ◌++◌, ℕ, ◌-◌, ◌≤◌, ◌<◌, min, length, take, drop, get_or, set, replicate, Err, None, Ok, Some}
+use Rattle.std.specs.Prelude.{◌≡◌, true, false, Option, List, ◌++◌, ℕ, ◌-◌, ◌≤◌, ◌<◌, min, length, take, drop, get_or, set, replicate, Err, None, Ok, Some}
 use Rattle.protocol.specs.Protocol.{output_least, lengths_least}
 use Rattle.protocol.specs.declared.Settings.{Settings}
 use Rattle.protocol.specs.declared.Refusal.TheVariants.{InvalidBlock}
@@ -159,7 +159,6 @@ PlaysTool (command.Check t) b = NoCommand b
 PlaysTool (command.Read room) b = NoCommand b
 PlaysTool command.Size b = NoCommand b
 PlaysTool command.Show b = NoCommand b
-PlaysTool command.Malformed b = NoCommand b
 
 -- ---- commands
 
@@ -200,11 +199,9 @@ PlaysOnLink (command.Rec slot number due timeout skips) b s r a bytes text x s' 
     Untouched s r a s' r' a' × PlaysTool (command.Rec slot number due timeout skips) b text x text'
 PlaysOnLink (command.Open conv mtu mode interval threshold stream congestion) b s r a bytes text x s' r' a' text' =
     Untouched s r a s' r' a' × NoCommand b text x text'
-PlaysOnLink command.Malformed b s r a bytes text x s' r' a' text' = Untouched s r a s' r' a' × NoCommand b text x text'
 
--- neither `open` nor malformed
+-- not `open`
 pub record IsLater (c : Command) : Type 0 where
-  pub not_malformed : c ≡ command.Malformed → ⊥
   pub not_open : (conv mtu mode interval threshold stream congestion : ℕ)
       → c ≡ command.Open conv mtu mode interval threshold stream congestion → ⊥
 
@@ -221,18 +218,18 @@ settings_of conv mtu mode interval threshold stream congestion =
       congestion = min congestion 255;
     }
 
--- `open` opens the link; every other command is refused before that
-pub record Plays (c : Command) (b : Bench) (s r a bytes text : List ℕ) (x : Played) (s' r' a' text' : List ℕ) : Type 0 where
-  pub malformed : c ≡ command.Malformed → Untouched s r a s' r' a' × NoCommand b text x text'
+-- `open` opens the link; every other command is refused before that. No command is a malformed line
+pub record Plays (o : Option Command) (b : Bench) (s r a bytes text : List ℕ) (x : Played) (s' r' a' text' : List ℕ) : Type 0 where
+  pub malformed : o ≡ None → Untouched s r a s' r' a' × NoCommand b text x text'
   pub opens : (conv mtu mode interval threshold stream congestion : ℕ)
-      → c ≡ command.Open conv mtu mode interval threshold stream congestion →
+      → o ≡ Some (command.Open conv mtu mode interval threshold stream congestion) →
       Untouched s r a s' r' a' × PlaysOpen (settings_of conv mtu mode interval threshold stream congestion) b s r a text x text'
-  pub on_link : IsLater c → b.opened ≡ true → PlaysOnLink c b s r a bytes text x s' r' a' text'
-  pub unopened : IsLater c → b.opened ≡ false → Untouched s r a s' r' a' × PlaysUnopened c b text x text'
+  pub on_link : (c : Command) → o ≡ Some c → IsLater c → b.opened ≡ true → PlaysOnLink c b s r a bytes text x s' r' a' text'
+  pub unopened : (c : Command) → o ≡ Some c → IsLater c → b.opened ≡ false → Untouched s r a s' r' a' × PlaysUnopened c b text x text'
 
 -- ---- lines
 
 -- the line between two places of a script is parsed; where no newline ends it, it is malformed
-pub record PlaysLine (script : List ℕ) (from end : ℕ) (was : List ℕ) (c : Command) (is : List ℕ) : Type 0 where
+pub record PlaysLine (script : List ℕ) (from end : ℕ) (was : List ℕ) (c : Option Command) (is : List ℕ) : Type 0 where
   pub line : from ≤ end → end < length script → Parsed (take (end - from) (drop from script)) was c is
-  pub unended : length script ≤ end → (c ≡ command.Malformed) × (is ≡ was)
+  pub unended : length script ≤ end → (c ≡ None) × (is ≡ was)

@@ -26,24 +26,16 @@ pub struct Played {
 }
 
 // The command of the line between `from` and `end`.
-pub fn line_of(script: &[u8], from: usize, end: usize, bytes: &mut [u8]) -> Command
+pub fn line_of(script: &[u8], from: usize, end: usize, bytes: &mut [u8]) -> Option<Command>
     ensures { PlaysLine script.now from end bytes.old result bytes.new }
 {
-    if from <= end {
-        if end < script.len() {
-            return script::parse(&script[from..end], bytes);
-        }
+    if from <= end && end < script.len() {
+        return script::parse(&script[from..end], bytes);
     }
-    Command::Malformed
+    None
 }
 
 // A setting that is too large for its width is out of its range all the same.
-fn capped(value: u32, most: u32) -> u32
-    ensures { result ≡ min value most }
-{
-    if value < most { value } else { most }
-}
-
 fn settings_of(
     conv: u32,
     mtu: u32,
@@ -57,12 +49,12 @@ fn settings_of(
 {
     Protocol::settings(
         conv,
-        capped(mtu, 65535) as u16,
-        capped(mode, 255) as u8,
-        capped(interval, 65535) as u16,
-        capped(threshold, 255) as u8,
-        capped(stream, 255) as u8,
-        capped(congestion, 255) as u8,
+        mtu.min(65535) as u16,
+        mode.min(255) as u8,
+        interval.min(65535) as u16,
+        threshold.min(255) as u8,
+        stream.min(255) as u8,
+        congestion.min(255) as u8,
     )
 }
 
@@ -330,8 +322,7 @@ fn state(bench: Bench, text: &mut [u8]) -> Played
 fn held(bench: Bench, text: &mut [u8]) -> Played
     ensures { Says (still bench) (held_line bench.link bench.table) text.old result text.new }
 {
-    let table = bench.table;
-    let len = link::segments(text, 0, bench.link, table);
+    let len = link::segments(text, 0, bench.link, &bench.table);
     unchanged(bench, len)
 }
 
@@ -346,13 +337,11 @@ fn jump(bench: Bench, snd: u32, rcv: u32, text: &mut [u8]) -> Played
     }
 }
 
-fn lend(bench: Bench, part: u32, count: u32, text: &mut [u8]) -> Played
+fn lend(mut bench: Bench, part: u32, count: u32, text: &mut [u8]) -> Played
     ensures { PlaysLend part count bench text.old result text.new }
 {
-    let lent = bench::lend(bench.lent, part, count);
-    let mut next = bench;
-    next.lent = lent;
-    ok(next, text)
+    bench.lent = bench::lend(bench.lent, part, count);
+    ok(bench, text)
 }
 
 fn poke(bench: Bench, field: u32, value: u32, text: &mut [u8]) -> Played
@@ -378,12 +367,11 @@ fn hold(bench: Bench, list: u32, index: u32, field: u32, value: u32, text: &mut 
     }
 }
 
-fn rec(bench: Bench, slot: u32, record: Record, text: &mut [u8]) -> Played
+fn rec(mut bench: Bench, slot: u32, record: Record, text: &mut [u8]) -> Played
     ensures { Ok (after bench bench.link (set bench.table slot «record»)) text.old result text.new }
 {
-    let old = bench.table;
-    let table = bench::replace(old, slot, record);
-    ok(bench.with_table(bench.link, table), text)
+    bench::replace(&mut bench.table, slot as usize, record);
+    ok(bench, text)
 }
 
 // The commands that look at the bench, or change it by hand.
@@ -464,7 +452,7 @@ fn on_link(
 // Plays a command: the bench after it, and the length of the answer, which stands at the start of `text`.
 pub fn play(
     bench: Bench,
-    command: Command,
+    command: Option<Command>,
     send_pool: &mut [u8],
     receive_pool: &mut [u8],
     acks: &mut [u32],
@@ -474,8 +462,10 @@ pub fn play(
     ensures { Plays command bench send_pool.old receive_pool.old acks.old bytes.now
         text.old result send_pool.new receive_pool.new acks.new text.new }
 {
+    let Some(command) = command else {
+        return malformed(bench, text);
+    };
     match command {
-        Command::Malformed => malformed(bench, text),
         Command::Open {
             conv,
             mtu,
@@ -488,12 +478,7 @@ pub fn play(
             let settings = settings_of(conv, mtu, mode, interval, threshold, stream, congestion);
             open(bench, settings, send_pool, receive_pool, acks, text)
         }
-        _ => {
-            if bench.opened {
-                on_link(bench, command, send_pool, receive_pool, acks, bytes, text)
-            } else {
-                unopened(bench, command, text)
-            }
-        }
+        _ if bench.opened => on_link(bench, command, send_pool, receive_pool, acks, bytes, text),
+        _ => unopened(bench, command, text),
     }
 }

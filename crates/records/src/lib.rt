@@ -7,19 +7,11 @@ ghost use Rattle.records.specs.Tables.{blank};
 
 use timing::Record;
 
-// A record of no segment.
-const BLANK: Record = Record {
-    number: 0,
-    due: 0,
-    timeout: 0,
-    skips: 0,
-};
-
 // No record yet: 32 blank ones.
 pub fn none() -> [Record; 32]
     ensures { result ≡ replicate 32 blank }
 {
-    [BLANK; 32]
+    [Record::default(); 32]
 }
 
 // How many records the table has.
@@ -33,17 +25,14 @@ pub fn table_len(table: &[Record]) -> usize
 pub fn read(table: &[Record], slot: usize) -> Record
     ensures { result ≡ get_or table.now slot blank }
 {
-    if slot < table.len() {
-        table[slot]
-    } else {
-        BLANK
-    }
+    table.get(slot).copied().unwrap_or_default()
 }
 
 // The record at a slot is replaced; past the table's end nothing changes.
 pub fn replace(table: &mut [Record], slot: usize, updated: Record)
     ensures { table.new ≡ set table.old slot updated }
 {
+    // Tried as `get_mut`: its contract says nothing of the table after a store through it.
     if slot < table.len() {
         table[slot] = updated;
     }

@@ -20,11 +20,15 @@ use Rattle.retransmission.specs.Transmissions.{
   counted,
   sending,
   sending_by,
+  is_sent,
+  is_late,
+  is_fast,
   not_sent,
   transmission,
   skipped,
 }
 use Rattle.timing.specs.declared.Record.{Record}
+use Rattle.retransmission.specs.declared.Cause.TheVariants.{Late, Fast}
 use Rattle.retransmission.specs.declared.Transmission.{Transmission}
 
 longer_in_range : (mode own link : ℕ) → TimeoutInRange mode own → TimeoutInRange mode (longer_timeout mode own link)
@@ -46,7 +50,7 @@ module _ (s : Settings) (link t n : ℕ) (r : Record) where
       {x : Transmission} →
       (n ≡ 0 → ⊥) →
       is_due t r.due ≡ true →
-      x ≡ sending_by true false n (timed_out s.mode link t r) →
+      x ≡ sending_by Late n (timed_out s.mode link t r) →
       x ≡ transmission s link t n r
   unfolding transmission
   when_due e d q = rw (ne_eqb _ _ e, d) q
@@ -56,7 +60,7 @@ module _ (s : Settings) (link t n : ℕ) (r : Record) where
       (n ≡ 0 → ⊥) →
       is_due t r.due ≡ false →
       is_skipped s.threshold n r.skips ≡ true →
-      x ≡ sending_by false true n (fast_transmission t r) →
+      x ≡ sending_by Fast n (fast_transmission t r) →
       x ≡ transmission s link t n r
   unfolding transmission
   when_skipped e d k q = rw (ne_eqb _ _ e, d, k) q
@@ -75,8 +79,8 @@ module _ (s : Settings) (link t n : ℕ) (r : Record) where
   pub each_way :
       (P : Transmission → Type 0) →
       P (sending n (first_transmission s.mode link t r)) →
-      P (sending_by true false n (timed_out s.mode link t r)) →
-      P (sending_by false true n (fast_transmission t r)) →
+      P (sending_by Late n (timed_out s.mode link t r)) →
+      P (sending_by Fast n (fast_transmission t r)) →
       P (not_sent n r) →
       P (transmission s link t n r)
   unfolding transmission
@@ -111,11 +115,11 @@ module _ (s : Settings) (link t n : ℕ) (r : Record) where
   transmission_number = each_way (λ x. x.updated.number ≡ r.number) refl refl refl refl
 
   -- what is sent counts once, what is not sent stays
-  pub transmission_sent : (transmission s link t n r).sends ≡ true → (transmission s link t n r).transmissions ≡ counted n
-  transmission_sent = each_way (λ x. x.sends ≡ true → x.transmissions ≡ counted n) (λ _. refl) (λ _. refl) (λ _. refl) (λ e. cc)
+  pub transmission_sent : is_sent (transmission s link t n r) ≡ true → (transmission s link t n r).transmissions ≡ counted n
+  transmission_sent = each_way (λ x. is_sent x ≡ true → x.transmissions ≡ counted n) (λ _. refl) (λ _. refl) (λ _. refl) (λ e. cc)
 
-  pub transmission_not_sent : (transmission s link t n r).sends ≡ false → transmission s link t n r ≡ not_sent n r
-  transmission_not_sent = each_way (λ x. x.sends ≡ false → x ≡ not_sent n r) (λ e. cc) (λ e. cc) (λ e. cc) (λ _. refl)
+  pub transmission_not_sent : is_sent (transmission s link t n r) ≡ false → transmission s link t n r ≡ not_sent n r
+  transmission_not_sent = each_way (λ x. is_sent x ≡ false → x ≡ not_sent n r) (λ e. cc) (λ e. cc) (λ e. cc) (λ _. refl)
 
   -- by the tests for a first transmission, a due one and a skipped one
   abbrev ways : Bool → Bool → Bool → Transmission
@@ -123,27 +127,27 @@ module _ (s : Settings) (link t n : ℕ) (r : Record) where
       cond never
       (sending n (first_transmission s.mode link t r))
       (cond due
-      (sending_by true false n (timed_out s.mode link t r))
-      (cond skips (sending_by false true n (fast_transmission t r)) (not_sent n r)))
+      (sending_by Late n (timed_out s.mode link t r))
+      (cond skips (sending_by Fast n (fast_transmission t r)) (not_sent n r)))
 
   -- late exactly where it was sent before and is due
-  pub transmission_late : (transmission s link t n r).late ≡ (not (eqb n 0) && is_due t r.due)
+  pub transmission_late : is_late (transmission s link t n r) ≡ (not (eqb n 0) && is_due t r.due)
   unfolding transmission
   transmission_late = go (eqb n 0) (is_due t r.due) (is_skipped s.threshold n r.skips)
     where
-      go : (a b k : Bool) → (ways a b k).late ≡ (not a && b)
+      go : (a b k : Bool) → is_late (ways a b k) ≡ (not a && b)
       go true b k = refl
       go false true k = refl
       go false false true = refl
       go false false false = refl
 
   -- fast exactly where it was sent before, is not due, and was skipped
-  pub transmission_fast : (transmission s link t n r).fast ≡
+  pub transmission_fast : is_fast (transmission s link t n r) ≡
       (not (eqb n 0) && not (is_due t r.due) && is_skipped s.threshold n r.skips)
   unfolding transmission
   transmission_fast = go (eqb n 0) (is_due t r.due) (is_skipped s.threshold n r.skips)
     where
-      go : (a b k : Bool) → (ways a b k).fast ≡ (not a && not b && k)
+      go : (a b k : Bool) → is_fast (ways a b k) ≡ (not a && not b && k)
       go true b k = refl
       go false true k = refl
       go false false true = refl

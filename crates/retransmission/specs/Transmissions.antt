@@ -1,11 +1,13 @@
 -- What a flush at t does with an outstanding segment. Definitions.
 -- `own` is the segment's timeout, `link` the link's.
 -- Assumes nothing.
-use Rattle.std.specs.Prelude.{Bool, true, false, cond, ◌&&◌, ℕ, ◌+◌, ◌/◌, min, max, eqb, ltb, leb}
+use Rattle.std.specs.Prelude.{Bool, Option, None, Some, is_some, true, false, cond, ◌&&◌, ℕ, ◌+◌, ◌/◌, min, max, eqb, ltb, leb}
 use Rattle.protocol.specs.Protocol.{timeout_most, dead_after, fast_most, skips_most}
 use Rattle.protocol.specs.Serial.{plus, is_due}
 use Rattle.protocol.specs.declared.Settings.{Settings}
 use Rattle.timing.specs.declared.Record.{Record}
+use Rattle.retransmission.specs.declared.Cause.{Cause}
+use Rattle.retransmission.specs.declared.Cause.TheVariants.{First, Late, Fast}
 use Rattle.retransmission.specs.declared.Transmission.{Transmission}
 
 -- due = t + timeout, plus an eighth of it rounded down in mode 0
@@ -44,16 +46,33 @@ abbrev pub counted : ℕ → ℕ
 counted transmissions = min dead_after (transmissions + 1)
 
 -- a sending, with the record that it leaves: late where it was due, fast where it was skipped
-abbrev pub sending_by : Bool → Bool → ℕ → Record → Transmission
-sending_by late fast transmissions r = record { sends = true; late = late; fast = fast; transmissions = counted transmissions; updated = r }
+abbrev pub sending_by : Cause → ℕ → Record → Transmission
+sending_by why transmissions r = record { cause = Some why; transmissions = counted transmissions; updated = r }
 
 -- for the first time
 abbrev pub sending : ℕ → Record → Transmission
-sending = sending_by false false
+sending = sending_by First
+
+-- whether it is sent, whether because it was due (late), and whether because it was skipped (fast)
+abbrev pub is_sent : Transmission → Bool
+is_sent x = is_some x.cause
+
+abbrev pub is_by : Cause → Option Cause → Bool
+is_by why None = false
+is_by Late (Some Late) = true
+is_by Fast (Some Fast) = true
+is_by First (Some First) = true
+is_by why (Some other) = false
+
+abbrev pub is_late : Transmission → Bool
+is_late x = is_by Late x.cause
+
+abbrev pub is_fast : Transmission → Bool
+is_fast x = is_by Fast x.cause
 
 -- nothing is sent, and all stays
 abbrev pub not_sent : ℕ → Record → Transmission
-not_sent transmissions r = record { sends = false; late = false; fast = false; transmissions = transmissions; updated = r }
+not_sent transmissions r = record { cause = None; transmissions = transmissions; updated = r }
 
 -- the first that holds is used: never sent, due, skipped
 unfoldable pub transmission : Settings → ℕ → ℕ → ℕ → Record → Transmission
@@ -61,9 +80,9 @@ transmission s link t transmissions r =
     cond (eqb transmissions 0)
     (sending transmissions (first_transmission s.mode link t r))
     (cond (is_due t r.due)
-    (sending_by true false transmissions (timed_out s.mode link t r))
+    (sending_by Late transmissions (timed_out s.mode link t r))
     (cond (is_skipped s.threshold transmissions r.skips)
-    (sending_by false true transmissions (fast_transmission t r))
+    (sending_by Fast transmissions (fast_transmission t r))
     (not_sent transmissions r)))
 
 -- one skip, staying at 255

@@ -1,18 +1,22 @@
 // When an outstanding segment is transmitted, and what a flush or a skip leaves of its record.
 #![tactic(auto)]
 
-mod number;
 pub mod outstanding;
 
 use timing::Record;
 
-// What a flush does with an outstanding segment: whether it is sent, whether that is because it was due (late) or skipped (fast),
-// and its transmissions and record afterwards. One that is sent and neither late nor fast was never sent before.
+// Why a segment is sent: it never was before, it was due, or it was skipped.
+#[derive(Clone, Copy, PartialEq, Eq)]
+pub enum Cause {
+    First,
+    Late,
+    Fast,
+}
+
+// What a flush does with an outstanding segment: why it is sent, if it is, and its transmissions and record afterwards.
 #[derive(Clone, Copy)]
 pub struct Transmission {
-    pub sends: bool,
-    pub late: bool,
-    pub fast: bool,
+    pub cause: Option<Cause>,
     pub transmissions: u8,
     pub updated: Record,
 }

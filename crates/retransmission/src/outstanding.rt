@@ -15,11 +15,12 @@ ghost use Rattle.retransmission.specs.Transmissions.{
   transmission,
 };
 
-use crate::{Transmission, number};
+use crate::{Cause, Transmission};
 use protocol::{Protocol, Settings, serial};
 use timing::Record;
 
 // When a segment that is sent at t for the first time is due: in mode 0 an eighth of the timeout later.
+#[tactic(auto, unfolding(crate::specs::Transmissions::first_due))]
 fn first_due(mode: u8, link: u32, t: u32) -> u32
     ensures { result ≡ first_due mode link t }
 {
@@ -35,32 +36,31 @@ fn first_transmission(mode: u8, link: u32, t: u32, old: Record) -> Record
     ensures { result ≡ first_transmission mode link t old }
 {
     Record {
-        number: old.number,
         due: first_due(mode, link, t),
         timeout: link,
-        skips: old.skips,
+        ..old
     }
 }
 
 // What a segment that is due adds to its timeout. A mode above 2 never passes the check of the settings; here it is as 2.
+#[tactic(auto, unfolding(crate::specs::Transmissions::growth))]
 fn growth(mode: u8, own: u32, link: u32) -> u32
     ensures { result ≡ growth mode own link }
 {
-    if mode == 0 {
-        return number::larger(own, link);
+    match mode {
+        0 => own.max(link),
+        1 => own / 2,
+        _ => link / 2,
     }
-    if mode == 1 {
-        return own / 2;
-    }
-    link / 2
 }
 
 // The timeout of a segment that is due.
+#[tactic(auto, unfolding(crate::specs::Transmissions::longer_timeout))]
 fn longer_timeout(mode: u8, own: u32, link: u32) -> u32
     ensures { result ≡ longer_timeout mode own link }
 {
-    let more = growth(mode, own, link);
-    number::sum_to(Protocol::TIMEOUT_MOST, own, more)
+    let longer = own.saturating_add(growth(mode, own, link));
+    longer.min(Protocol::TIMEOUT_MOST)
 }
 
 // The record of a segment that is due, sent at t.
@@ -69,18 +69,18 @@ fn timed_out(mode: u8, link: u32, t: u32, old: Record) -> Record
 {
     let timeout = longer_timeout(mode, old.timeout, link);
     Record {
-        number: old.number,
         due: serial::sum(t, timeout),
         timeout,
-        skips: old.skips,
+        ..old
     }
 }
 
 // Whether a segment has been skipped often enough, and sent seldom enough, to be sent before it is due.
+#[tactic(auto, unfolding(crate::specs::Transmissions::is_skipped))]
 fn is_skipped(threshold: u8, transmissions: u8, skips: u32) -> bool
     ensures { result ≡ is_skipped threshold transmissions skips }
 {
-    (0 < threshold) & (threshold as u32 <= skips) & (transmissions <= Protocol::FAST_MOST)
+    (0 < threshold) & (u32::from(threshold) <= skips) & (transmissions <= Protocol::FAST_MOST)
 }
 
 // The record of a segment that was skipped, sent at t.
@@ -88,10 +88,9 @@ fn fast_transmission(t: u32, old: Record) -> Record
     ensures { result ≡ fast_transmission t old }
 {
     Record {
-        number: old.number,
         due: serial::sum(t, old.timeout),
-        timeout: old.timeout,
         skips: 0,
+        ..old
     }
 }
 
@@ -99,21 +98,15 @@ fn fast_transmission(t: u32, old: Record) -> Record
 fn counted(transmissions: u8) -> u8
     ensures { result ≡ counted transmissions }
 {
-    if transmissions < Protocol::DEAD_AFTER {
-        transmissions + 1
-    } else {
-        Protocol::DEAD_AFTER
-    }
+    transmissions.saturating_add(1).min(Protocol::DEAD_AFTER)
 }
 
-// A segment that is sent, late, fast or for the first time, with the record that it gets.
-fn sending(late: bool, fast: bool, transmissions: u8, updated: Record) -> Transmission
-    ensures { result ≡ sending_by late fast transmissions updated }
+// A segment that is sent, with the record that it gets.
+fn sending(cause: Cause, transmissions: u8, updated: Record) -> Transmission
+    ensures { result ≡ sending_by cause transmissions updated }
 {
     Transmission {
-        sends: true,
-        late,
-        fast,
+        cause: Some(cause),
         transmissions: counted(transmissions),
         updated,
     }
@@ -121,6 +114,7 @@ fn sending(late: bool, fast: bool, transmissions: u8, updated: Record) -> Transm
 
 // What a flush at t does with an outstanding segment: the first rule that holds is used.
 // Where none holds, nothing is sent and all stays.
+#[tactic(auto, unfolding(crate::specs::Transmissions::transmission))]
 pub fn transmission(
     settings: Settings,
     link: u32,
@@ -133,18 +127,16 @@ pub fn transmission(
     let mode = settings.mode;
     if transmissions == 0 {
         let first = first_transmission(mode, link, t, old);
-        return sending(false, false, transmissions, first);
+        return sending(Cause::First, transmissions, first);
     }
     if serial::due(t, old.due) {
-        return sending(true, false, transmissions, timed_out(mode, link, t, old));
+        return sending(Cause::Late, transmissions, timed_out(mode, link, t, old));
     }
     if is_skipped(settings.threshold, transmissions, old.skips) {
-        return sending(false, true, transmissions, fast_transmission(t, old));
+        return sending(Cause::Fast, transmissions, fast_transmission(t, old));
     }
     Transmission {
-        sends: false,
-        late: false,
-        fast: false,
+        cause: None,
         transmissions,
         updated: old,
     }
@@ -154,11 +146,6 @@ pub fn transmission(
 pub fn skipped(old: Record) -> Record
     ensures { result ≡ skipped old }
 {
-    let skips = number::sum_to(Protocol::SKIPS_MOST, old.skips, 1);
-    Record {
-        number: old.number,
-        due: old.due,
-        timeout: old.timeout,
-        skips,
-    }
+    let skips = old.skips.saturating_add(1).min(Protocol::SKIPS_MOST);
+    Record { skips, ..old }
 }

@@ -1,7 +1,7 @@
 -- Laws of rows: a loop that goes through one byte by byte.
 -- Assumes nothing.
 use Rattle.std.specs.Prelude.{◌≡◌, refl, Bool, true, false, List, ℕ, zero, suc, ◌+◌, ◌-◌, ◌≤◌, ◌<◌, eqb, ltb, get_or, set}
-use Rattle.std.proofs.Common.{sym, ap, ◌∙◌, eqb-true, lt-ltb, le-ltb, ltb-true, ltb-false, length-set, get_or-set_same, get_or-set_other}
+use Rattle.std.proofs.Common.{sym, ap, ◌∙◌, add_assoc, eqb-true, lt-ltb, le-ltb, ltb-true, ltb-false, length-set, get_or-set_same, get_or-set_other}
 use native.Mathlib.Omega.{arith}
 use Rattle.std.proofs.lemmas.Bool.{eqb-false}
 use Rattle.std.proofs.Math.ListN.{length, get_or-eq_default}
@@ -68,8 +68,14 @@ module _ (was : List ℕ) (at : ℕ) (l : List ℕ) where
       let m : length l ≤ x - at = omega arith in
       rw (le-ltb x at (omega arith), get_or-eq_default l 0 m) (sym (plus_zero (get_or was x 0)))
 
-  pub sum_none : Done (sum was at l) at was was
-  sum_none = record { size = refl; done = λ x h. sum_below x h; unchanged = λ x h. refl }
+  pub sum_none : Done (sum was at l) (at + 0) was was
+  sum_none = record { size = refl; done = λ x h. sum_below x (omega arith); unchanged = λ x h. refl }
+
+  pub sum_next : (i : ℕ) (row : List ℕ) (v : ℕ) → Done (sum was at l) (at + i) was row → at + i < length was
+      → v ≡ plus (get_or row (at + i) 0) (get_or l i 0) → Done (sum was at l) (at + (i + 1)) was (set row (at + i) v)
+  sum_next i row v d h e =
+      rw (← add_assoc) (done_next (sum was at l) (at + i) was row v d h
+      (e ∙ ap (λ (b : ℕ). plus b (get_or l i 0)) (d.unchanged (at + i) (omega arith)) ∙ sum_at i))
 
   pub sum_all : (i : ℕ) (row : List ℕ) → Done (sum was at l) (at + i) was row → length l ≤ i → i ≤ length l
       → Row (sum was at l) (length was) row

@@ -5,15 +5,13 @@ ghost use Rattle.std.specs.Prelude.{◌≡◌, ℕ, ◌+◌, ◌≤◌, ◌<◌,
 ghost use Rattle.galois.specs.Field.{plus, double, mul};
 ghost use Rattle.rows.specs.Rows.{Row, behind, stepped};
 
+use std::array;
+
 // Each byte becomes 0.
 pub fn clear(row: &mut [u8])
     ensures { Row (λ x. 0) (length row.old) row.new }
 {
-    let mut i = 0;
-    while i < row.len() {
-        row[i] = 0;
-        i += 1;
-    }
+    row.fill(0);
 }
 
 // `other` is added to the bytes from `at` on.
@@ -22,10 +20,8 @@ pub fn add(row: &mut [u8], at: usize, other: &[u8])
     ensures { Row (λ x. plus (get_or row.old x 0) (behind at other.now x))
         (length row.old) row.new }
 {
-    let mut i = 0;
-    while i < other.len() {
-        row[at + i] = galois::add(row[at + i], other[i]);
-        i += 1;
+    for (i, b) in other.iter().enumerate() {
+        row[at + i] = galois::add(row[at + i], *b);
     }
 }
 
@@ -33,10 +29,8 @@ pub fn add(row: &mut [u8], at: usize, other: &[u8])
 fn double(row: &mut [u8])
     ensures { Row (λ x. double (get_or row.old x 0)) (length row.old) row.new }
 {
-    let mut i = 0;
-    while i < row.len() {
-        row[i] = galois::double(row[i]);
-        i += 1;
+    for b in row.iter_mut() {
+        *b = galois::double(*b);
     }
 }
 
@@ -54,19 +48,7 @@ pub fn step(w: usize, row: &mut [u8])
 fn products(c: u8) -> [u8; 256]
     ensures { Row (λ x. mul c x) 256 result }
 {
-    let mut table = [0u8; 256];
-    let mut i = 0;
-    while i < 256 {
-        table[i] = galois::multiply(c, i as u8);
-        i += 1;
-    }
-    table
-}
-
-fn wide(x: u8) -> usize
-    ensures { (result ≡ x) × (result < 256) }
-{
-    x as usize
+    array::from_fn(|b| galois::multiply(c, b as u8))
 }
 
 // Each byte is multiplied with c.
@@ -74,11 +56,8 @@ pub fn multiply(row: &mut [u8], c: u8)
     ensures { Row (λ x. mul c (get_or row.old x 0)) (length row.old) row.new }
 {
     let table = products(c);
-    let mut i = 0;
-    while i < row.len() {
-        let b = wide(row[i]);
-        row[i] = table[b];
-        i += 1;
+    for b in row.iter_mut() {
+        *b = table[usize::from(*b)];
     }
 }
 
@@ -89,10 +68,7 @@ pub fn add_multiple(row: &mut [u8], c: u8, other: &[u8])
         (length row.old) row.new }
 {
     let table = products(c);
-    let mut i = 0;
-    while i < other.len() {
-        let b = wide(other[i]);
-        row[i] = galois::add(row[i], table[b]);
-        i += 1;
+    for (i, b) in other.iter().enumerate() {
+        row[i] = galois::add(row[i], table[usize::from(*b)]);
     }
 }

@@ -1,14 +1,10 @@
--- The least distance over the front of an array: what is read next, and at its end.
+-- The least distance over a list of records, as a fold, and the records that there are.
 -- Assumes nothing.
-use mathlib.Core.Path.{◌≡◌}
-use mathlib.Core.List.{List}
-use Prim.Native.Nat.{ℕ, ◌+◌, ◌≤◌, ◌<◌, min}
+use Rattle.std.proofs.Common.{◌≡◌, refl, List, [], ◌∷◌, ℕ, ◌≤◌, min, arith, length, take}
+use Rattle.std.specs.List.{fold}
+use Rattle.std.proofs.lemmas.List.{take_all}
 use native.Mathlib.Decide.{dec_le}
-use native.Mathlib.Omega.{arith}
-use lib.ListN.{length, take, drop, get_or}
-use lib.Seq.{take_all}
 use Rattle.timing.specs.declared.Record.{Record}
-use Rattle.lists.proofs.Loops.{view_next, view_end}
 use Rattle.schedule.specs.Schedules.{ahead, dues_of, earliest}
 
 -- no more are taken than there are
@@ -19,13 +15,7 @@ take_held l n k e = go (dec_le n k)
     go (yes h) = let m : min n k ≡ n = omega arith in rw m
     go (no h) = let m : min n k ≡ k = omega arith in rw (m, take_all k l (omega arith), take_all n l (omega arith))
 
-module _ (now most n i : ℕ) (l : List Record) where
-  -- with w, the least so far of `most` and the distance a of the next one
-  pub earliest_next : (d : Record) (a w : ℕ) → i < n → n ≤ length l → a ≡ ahead now (get_or l i d).due → w ≡ min most a
-      → earliest now most (dues_of (drop i (take n l))) ≡ earliest now w (dues_of (drop (i + 1) (take n l)))
-  unfolding earliest
-  earliest_next d a w h g e f = rw (view_next l n i d h g, f, e)
-
-  pub earliest_end : n ≤ i → earliest now most (dues_of (drop i (take n l))) ≡ most
-  unfolding earliest
-  earliest_end h = rw (view_end l n i h)
+pub earliest_fold : (now most : ℕ) (l : List Record) → fold (λ wait r. min wait (ahead now r.due)) most l ≡ earliest now most (dues_of l)
+unfolding earliest
+earliest_fold now most [] = refl
+earliest_fold now most (r ∷ l) = earliest_fold now (min most (ahead now r.due)) l

@@ -1,5 +1,6 @@
 // The schedule of flushes, moved on by each update and asked by each check.
-ghost use Rattle.std.specs.Prelude.{◌≡◌, ◌≤◌, min, length, take};
+ghost use Rattle.std.specs.Prelude.{◌≡◌, min, take};
+ghost use Rattle.std.specs.List.{fold};
 ghost use Rattle.schedule.specs.Schedules.{is_astray, corrected, started, following, updated, ahead, dues_of, earliest, named};
 
 use crate::{Schedule, Updated};
@@ -51,32 +52,13 @@ fn ahead(now: u32, time: u32) -> u32
     }
 }
 
-fn least(a: u32, b: u32) -> u32
-    ensures { result ≡ min a b }
+// How long it is from t until the first of these is due, and no longer than most.
+fn earliest(t: u32, most: u32, records: &[Record]) -> u32
+    ensures { result ≡ fold (λ wait r. min wait (ahead t r.due)) most records.now }
 {
-    if a < b { a } else { b }
-}
-
-// n, or as many as there are records.
-fn held(n: usize) -> usize
-    ensures { result ≡ min n 32 }
-{
-    if n < 32 { n } else { 32 }
-}
-
-// How long it is from t until the first of n segments is due, and no longer than most.
-fn earliest(t: u32, most: u32, records: &[Record; 32], n: usize) -> u32
-    requires { (length records.now ≡ 32) × (n ≤ 32) }
-    ensures { result ≡ earliest t most (dues_of (take n records.now)) }
-{
-    let mut wait = most;
-    let mut i: usize = 0;
-    while i < n {
-        let one = records[i];
-        wait = least(wait, ahead(t, one.due));
-        i += 1;
-    }
-    wait
+    records
+        .iter()
+        .fold(most, |wait, record| wait.min(ahead(t, record.due)))
 }
 
 impl Schedule {
@@ -86,7 +68,7 @@ impl Schedule {
     {
         let next = corrected(now, started(self, now));
         if serial::due(now, next) {
-            let later = following(now, next, interval as u32);
+            let later = following(now, next, u32::from(interval));
             return Updated {
                 schedule: Schedule {
                     next: later,
@@ -104,14 +86,13 @@ impl Schedule {
     // The time at which the next update is wanted: the next flush, or the first due time of n outstanding segments, at most
     // one interval away; t itself before the first update.
     pub fn check(self, t: u32, interval: u16, records: &[Record; 32], n: usize) -> u32
-        requires { length records.now ≡ 32 }
         ensures { result ≡ named self t interval (dues_of (take n records.now)) }
     {
         if !self.made {
             return t;
         }
         let next = corrected(t, self.next);
-        let most = least(interval as u32, ahead(t, next));
-        serial::sum(t, earliest(t, most, records, held(n)))
+        let most = u32::from(interval).min(ahead(t, next));
+        serial::sum(t, earliest(t, most, &records[..n.min(32)]))
     }
 }

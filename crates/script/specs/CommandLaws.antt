@@ -1,63 +1,54 @@
 -- Laws of `Commands`: words and names letter by letter, and numbers word by word.
 -- Assumes nothing.
-use Rattle.std.specs.Prelude.{◌≡◌, refl, Bool, true, false, cond, ◌||◌, List, [], ◌∷◌, ◌++◌, ℕ, suc, ◌+◌, ◌*◌, ◌-◌, ◌≤◌, ◌<◌, leb, eqb, length, take, drop}
-use Rattle.std.proofs.Common.{sym, ap, ◌∙◌, inl, inr, append_assoc, append-nil, arith, length-append, length-drop, drop_of_length-le, drop-cons, take_all, drop-drop, length-take-le}
-use Rattle.std.proofs.Math.Bool.{or-true}
-use Rattle.std.proofs.Math.Option.{Option, none, some}
-use Rattle.std.proofs.Math.Decide.{dec_le}
-use Rattle.std.proofs.Math.Numerals.{add-one}
-use borrow.Author.Tests.{le-leb, lt-leb, eq-eqb, ne_eqb}
-use Rattle.std.proofs.Math.ListN.{get_or}
-use types.Run.{OneOf}
+use Rattle.std.specs.Prelude.{◌≡◌, refl, Bool, true, false, cond, Option, Some, None, List, [], ◌∷◌, ◌++◌, ℕ, ◌+◌, ◌≤◌, ◌<◌, eqb, length, take, drop}
+use Rattle.std.proofs.Common.{sym, ap, append_assoc, append-nil, arith, length-append}
+use Rattle.std.proofs.Math.Decide.{dec_lt}
+use borrow.Author.Tests.{lt-leb, lt-ltb, le-ltb}
+use Rattle.std.specs.List.{position, position_or_len}
+use Rattle.std.specs.Option.{unwrap_or}
+use Rattle.std.proofs.lemmas.List.{length-take}
+use Rattle.std.proofs.lemmas.List.Recursion.{is_position_or_len}
 use Rattle.notation.specs.Words.{number_of}
-use Rattle.notation.specs.declared.Number.TheVariants as number
-use Rattle.notation.specs.declared.Bytes.TheVariants as bytes
-use Rattle.script.specs.declared.Command.TheVariants.{Malformed}
-use Rattle.script.specs.Commands.{is_one_of, up_to, word, behind_word, on_first, words, arguments, one_more, numbers_of, letters, of_one, of_two, of_four, of_five, of_six, of_seven, of_numbers, with_numbers}
+use Rattle.script.specs.Commands.{up_to, word, behind_word, on_first, words, arguments, one_more, numbers_of}
 use Rattle.script.specs.Reading.{few}
 
 -- ---- words
 
-module _ (stop : ℕ) (l : List ℕ) (i : ℕ) where
-  pub up_to_next : i < length l → (get_or l i 0 ≡ stop → ⊥) → length (up_to stop (drop i l)) ≡ suc (length (up_to stop (drop (i + 1) l)))
-  unfolding up_to
-  up_to_next h d = rw (drop-cons l i 0 h, add-one, ne_eqb (get_or l i 0) stop d)
+-- how long the front is: as many bytes as stand before the first that stops
+pub up_to_position : (stop : ℕ) (l : List ℕ) → length (up_to stop l) ≡ position_or_len (λ c. eqb c stop) l
+unfolding up_to
+up_to_position stop l = is_position_or_len (λ (m : List ℕ). length (up_to stop m)) (λ c. eqb c stop) refl
+    (λ c m. more (eqb c stop) c (up_to stop m)) l
+  where
+    more : (b : Bool) (c : ℕ) (m : List ℕ) → length (cond b [] (c ∷ m)) ≡ cond b 0 (1 + length m)
+    more true c m = refl
+    more false c m = omega arith
 
-  pub up_to_here : i < length l → get_or l i 0 ≡ stop → length (up_to stop (drop i l)) ≡ 0
-  unfolding up_to
-  up_to_here h e = rw (drop-cons l i 0 h, eq-eqb (get_or l i 0) stop e)
-
-  pub up_to_end : length l ≤ i → length (up_to stop (drop i l)) ≡ 0
-  unfolding up_to
-  up_to_end h = rw (drop_of_length-le l h)
-
--- ---- names
-
-module _ (w : List ℕ) (i n : ℕ) where
-  pub letters_next : i < length w → 256 * n + get_or w i 0 < 72057594037927936
-      → letters n (drop i w) ≡ letters (256 * n + get_or w i 0) (drop (i + 1) w)
-  unfolding letters
-  letters_next h g = rw (drop-cons w i 0 h, add-one, lt-leb 72057594037927936 (256 * n + get_or w i 0) g)
-
-  pub letters_many : i < length w → 72057594037927936 ≤ 256 * n + get_or w i 0 → letters n (drop i w) ≡ 0
-  unfolding letters
-  letters_many h g = rw (drop-cons w i 0 h, le-leb 72057594037927936 (256 * n + get_or w i 0) g)
-
-  pub letters_end : length w ≤ i → letters n (drop i w) ≡ n
-  unfolding letters
-  letters_end h = rw (drop_of_length-le w h)
+-- it is the front of the list
+pub up_to_front : (stop : ℕ) (l : List ℕ) → take (length (up_to stop l)) l ≡ up_to stop l
+unfolding up_to
+up_to_front stop [] = refl
+up_to_front stop (c ∷ l) = go (eqb c stop) (up_to_front stop l)
+  where
+    go : (b : Bool) → take (length (up_to stop l)) l ≡ up_to stop l
+        → take (length (cond b [] (c ∷ up_to stop l))) (c ∷ l) ≡ cond b [] (c ∷ up_to stop l)
+    go true e = refl
+    go false e = ap (λ (w : List ℕ). c ∷ w) e
 
 -- ---- the words of a line
 
--- the first word is the front of the line
-pub word_front : (l : List ℕ) → take (length (word l)) l ≡ word l
-unfolding up_to
-word_front [] = refl
-word_front (c ∷ l) = go (eqb c 32) (word_front l)
+pub up_to_short : (stop : ℕ) (l : List ℕ) → length (up_to stop l) ≤ length l
+up_to_short stop l = omega (arith, simp length-take at (ap length (up_to_front stop l)))
+
+-- what a search for the byte that stops it answers
+pub up_to_found : (stop : ℕ) (l : List ℕ) (r : Option ℕ) → r ≡ position (λ c. eqb c stop) l → unwrap_or r (length l) ≡ length (up_to stop l)
+up_to_found stop l r e = go (dec_lt (position_or_len (λ c. eqb c stop) l) (length l))
   where
-    go : (b : Bool) → take (length (word l)) l ≡ word l → take (length (cond b [] (c ∷ word l))) (c ∷ l) ≡ cond b [] (c ∷ word l)
-    go true e = refl
-    go false e = ap (λ (w : List ℕ). c ∷ w) e
+    go : Dec (position_or_len (λ c. eqb c stop) l < length l) → unwrap_or r (length l) ≡ length (up_to stop l)
+    go (yes h) = rw (e, lt-ltb _ _ h) (sym (up_to_position stop l))
+    go (no h) =
+        let past : length l ≤ position_or_len (λ c. eqb c stop) l = omega arith in
+        rw (e, le-ltb _ _ past) (omega (arith, up_to_position stop l, up_to_short stop l))
 
 pub words_first : (l : List ℕ) → words l ≡ word l ∷ arguments (behind_word l)
 unfolding up_to words
@@ -69,174 +60,37 @@ words_first (c ∷ l) = go (eqb c 32) (words_first l)
     go true e = refl
     go false e = rw e
 
--- the next argument is the word behind a space, up to e
-pub arguments_next : (line : List ℕ) (here e : ℕ) → here < length line → e ≡ here + 1 + length (word (drop (here + 1) line)) →
-    arguments (drop here line) ≡ take (e - (here + 1)) (drop (here + 1) line) ∷ arguments (drop e line)
-arguments_next line here e h q =
-    let rest = drop (here + 1) line in
-    let count : e - (here + 1) ≡ length (word rest) = omega arith in
-    let there : drop (length (word rest)) rest ≡ drop e line =
-    drop-drop (length (word rest)) (here + 1) line ∙ ap (λ (k : ℕ). drop k line) (sym q) in
-    ap arguments (drop-cons line here 0 h) ∙ ap (λ (k : ℕ). words (drop k line)) (sym (add-one here))
-    ∙ words_first rest
-    ∙ ap (λ (m : List ℕ). word rest ∷ arguments m) there
-    ∙ ap (λ (w : List ℕ). w ∷ arguments (drop e line)) (sym (word_front rest) ∙ ap (λ (k : ℕ). take k rest) (sym count))
-
-pub arguments_end : (line : List ℕ) (here : ℕ) → length line ≤ here → arguments (drop here line) ≡ []
-arguments_end line here h = rw (drop_of_length-le line h)
+-- behind a space: the next word, and what is behind it
+pub arguments_next : (c : ℕ) (rest words word behind : List ℕ) → rest ≡ c ∷ words → word ≡ up_to 32 words
+    → behind ≡ drop (length (up_to 32 words)) words → arguments rest ≡ word ∷ arguments behind
+arguments_next c rest words word behind e f g = rw (e, f, g) (words_first words)
 
 -- ---- numbers
 
 -- numbers in front of those that are left
 abbrev pub prepend : List ℕ → Option (List ℕ) → Option (List ℕ)
-prepend ns none = none
-prepend ns (some ms) = some (ns ++ ms)
-
-pub prepend_none : (o : Option (List ℕ)) → prepend [] o ≡ o
-prepend_none none = refl
-prepend_none (some ms) = refl
+prepend ns None = None
+prepend ns (Some ms) = Some (ns ++ ms)
 
 -- a word that is a number, and one that is none
-pub numbers_next : (ns w : List ℕ) (n : ℕ) (ws : List (List ℕ)) → number_of w ≡ number.Of n
+pub numbers_next : (ns w : List ℕ) (n : ℕ) (ws : List (List ℕ)) → number_of w ≡ Some n
     → prepend ns (numbers_of (w ∷ ws)) ≡ prepend (ns ++ (n ∷ [])) (numbers_of ws)
 unfolding numbers_of
 numbers_next ns w n ws e = rw e (go (numbers_of ws))
   where
-    go : (o : Option (List ℕ)) → prepend ns (one_more (number.Of n) o) ≡ prepend (ns ++ (n ∷ [])) o
-    go none = refl
-    go (some ms) = ap some (sym (append_assoc ns (n ∷ []) ms))
+    go : (o : Option (List ℕ)) → prepend ns (one_more (Some n) o) ≡ prepend (ns ++ (n ∷ [])) o
+    go None = refl
+    go (Some ms) = ap Some (sym (append_assoc ns (n ∷ []) ms))
 
-pub numbers_none : (ns w : List ℕ) (ws : List (List ℕ)) → number_of w ≡ number.Malformed → prepend ns (numbers_of (w ∷ ws)) ≡ none
+pub numbers_none : (ns w : List ℕ) (ws : List (List ℕ)) → number_of w ≡ None → prepend ns (numbers_of (w ∷ ws)) ≡ None
 unfolding numbers_of
 numbers_none ns w ws e = rw e
 
-pub numbers_end : (ns : List ℕ) → prepend ns (numbers_of []) ≡ some ns
+pub numbers_end : (ns : List ℕ) → prepend ns (numbers_of []) ≡ Some ns
 unfolding numbers_of
-numbers_end ns = ap some (append-nil ns)
+numbers_end ns = ap Some (append-nil ns)
 
--- more than eight numbers
-pub few_long : (ns : List ℕ) (o : Option (List ℕ)) → 8 < length ns → few (prepend ns o) ≡ none
-few_long ns none h = refl
-few_long ns (some ms) h = rw (lt-leb (length (ns ++ ms)) 8 (omega (arith, length-append ns ms)))
-
--- ---- the arms of a match
-
-pub one_of : (k : ℕ) (ks : List ℕ) (n : ℕ) → OneOf (k ∷ ks) n → is_one_of n (k ∷ ks) ≡ true
-unfolding is_one_of
-one_of k [] n e = rw (eq-eqb n k e)
-one_of k (m ∷ ks) n (inl e) = rw (eq-eqb n k e)
-one_of k (m ∷ ks) n (inr h) = rw (one_of m ks n h, or-true)
-
-pub none_of : (k : ℕ) (ks : List ℕ) (n : ℕ) → (OneOf (k ∷ ks) n → ⊥) → is_one_of n (k ∷ ks) ≡ false
-unfolding is_one_of
-none_of k [] n d = rw (ne_eqb n k d)
-none_of k (m ∷ ks) n d = rw (ne_eqb n k (λ e. d (inl e)), none_of m ks n (λ h. d (inr h)))
-
--- four tests joined from the left, and as `is_one_of` joins them
-pub or_four : (a b c d : Bool) → (((a || b) || c) || d) ≡ (a || (b || (c || (d || false))))
-or_four true b c d = refl
-or_four false true c d = refl
-or_four false false true d = refl
-or_four false false false true = refl
-or_four false false false false = refl
-
--- ---- commands by how many numbers there are
-
-module _ (name : ℕ) where
-  pub one_number : (l : List ℕ) → 1 ≤ length l → of_numbers name (take 1 l) ≡ of_one name (get_or l 0 0)
-  one_number [] h = absurd (omega arith)
-  one_number (a ∷ l) h = refl
-
-  pub two_numbers : (l : List ℕ) → 2 ≤ length l → of_numbers name (take 2 l) ≡ of_two name (get_or l 0 0) (get_or l 1 0)
-  two_numbers [] h = absurd (omega arith)
-  two_numbers (a ∷ []) h = absurd (omega arith)
-  two_numbers (a ∷ b ∷ l) h = refl
-
-  pub four_numbers : (l : List ℕ) → 4 ≤ length l
-      → of_numbers name (take 4 l) ≡ of_four name (get_or l 0 0) (get_or l 1 0) (get_or l 2 0) (get_or l 3 0)
-  four_numbers [] h = absurd (omega arith)
-  four_numbers (a ∷ []) h = absurd (omega arith)
-  four_numbers (a ∷ b ∷ []) h = absurd (omega arith)
-  four_numbers (a ∷ b ∷ c ∷ []) h = absurd (omega arith)
-  four_numbers (a ∷ b ∷ c ∷ d ∷ l) h = refl
-
-  pub five_numbers : (l : List ℕ) → 5 ≤ length l
-      → of_numbers name (take 5 l) ≡ of_five name (get_or l 0 0) (get_or l 1 0) (get_or l 2 0) (get_or l 3 0) (get_or l 4 0)
-  five_numbers [] h = absurd (omega arith)
-  five_numbers (a ∷ []) h = absurd (omega arith)
-  five_numbers (a ∷ b ∷ []) h = absurd (omega arith)
-  five_numbers (a ∷ b ∷ c ∷ []) h = absurd (omega arith)
-  five_numbers (a ∷ b ∷ c ∷ d ∷ []) h = absurd (omega arith)
-  five_numbers (a ∷ b ∷ c ∷ d ∷ e ∷ l) h = refl
-
-  pub six_numbers : (l : List ℕ) → 6 ≤ length l →
-      of_numbers name (take 6 l) ≡ of_six name (get_or l 0 0) (get_or l 1 0) (get_or l 2 0) (get_or l 3 0) (get_or l 4 0) (get_or l 5 0)
-  six_numbers [] h = absurd (omega arith)
-  six_numbers (a ∷ []) h = absurd (omega arith)
-  six_numbers (a ∷ b ∷ []) h = absurd (omega arith)
-  six_numbers (a ∷ b ∷ c ∷ []) h = absurd (omega arith)
-  six_numbers (a ∷ b ∷ c ∷ d ∷ []) h = absurd (omega arith)
-  six_numbers (a ∷ b ∷ c ∷ d ∷ e ∷ []) h = absurd (omega arith)
-  six_numbers (a ∷ b ∷ c ∷ d ∷ e ∷ f ∷ l) h = refl
-
-  pub seven_numbers : (l : List ℕ) → 7 ≤ length l →
-      of_numbers name (take 7 l)
-      ≡ of_seven name (get_or l 0 0) (get_or l 1 0) (get_or l 2 0) (get_or l 3 0) (get_or l 4 0) (get_or l 5 0) (get_or l 6 0)
-  seven_numbers [] h = absurd (omega arith)
-  seven_numbers (a ∷ []) h = absurd (omega arith)
-  seven_numbers (a ∷ b ∷ []) h = absurd (omega arith)
-  seven_numbers (a ∷ b ∷ c ∷ []) h = absurd (omega arith)
-  seven_numbers (a ∷ b ∷ c ∷ d ∷ []) h = absurd (omega arith)
-  seven_numbers (a ∷ b ∷ c ∷ d ∷ e ∷ []) h = absurd (omega arith)
-  seven_numbers (a ∷ b ∷ c ∷ d ∷ e ∷ f ∷ []) h = absurd (omega arith)
-  seven_numbers (a ∷ b ∷ c ∷ d ∷ e ∷ f ∷ g ∷ l) h = refl
-
-  module _ (n : ℕ) (d₀ : n ≡ 0 → ⊥) (d₁ : n ≡ 1 → ⊥) (d₂ : n ≡ 2 → ⊥) (d₄ : n ≡ 4 → ⊥) (d₅ : n ≡ 5 → ⊥) (d₆ : n ≡ 6 → ⊥)
-      (d₇ : n ≡ 7 → ⊥) where
-    no_command : (l : List ℕ) → n ≡ length l → of_numbers name l ≡ Malformed
-    no_command [] q = absurd (d₀ q)
-    no_command (a ∷ []) q = absurd (d₁ q)
-    no_command (a ∷ b ∷ []) q = absurd (d₂ q)
-    no_command (a ∷ b ∷ c ∷ []) q = refl
-    no_command (a ∷ b ∷ c ∷ d ∷ []) q = absurd (d₄ q)
-    no_command (a ∷ b ∷ c ∷ d ∷ e ∷ []) q = absurd (d₅ q)
-    no_command (a ∷ b ∷ c ∷ d ∷ e ∷ f ∷ []) q = absurd (d₆ q)
-    no_command (a ∷ b ∷ c ∷ d ∷ e ∷ f ∷ g ∷ []) q = absurd (d₇ q)
-    no_command (a ∷ b ∷ c ∷ d ∷ e ∷ f ∷ g ∷ h ∷ l) q = refl
-
-    pub other_numbers : (l : List ℕ) → length l ≡ 8 → Malformed ≡ with_numbers name (cond (leb n 8) (some (take n l)) none)
-    other_numbers l whole = go (dec_le n 8)
-      where
-        go : Dec (n ≤ 8) → Malformed ≡ with_numbers name (cond (leb n 8) (some (take n l)) none)
-        go (yes h) = rw (le-leb n 8 h) (sym (no_command (take n l) (sym (length-take-le n l (omega arith)))))
-        go (no h) = rw (lt-leb n 8 (omega arith))
-
-  -- the reader keeps no more than eight
-  pub few_enough : (o : Option (List ℕ)) → with_numbers name (few o) ≡ with_numbers name o
-  few_enough none = refl
-  few_enough (some ns) = go (dec_le (length ns) 8)
-    where
-      go : Dec (length ns ≤ 8) → with_numbers name (cond (leb (length ns) 8) (some ns) none) ≡ of_numbers name ns
-      go (yes h) = rw (le-leb (length ns) 8 h)
-      go (no h) = rw (lt-leb (length ns) 8 (omega arith))
-          (sym (no_command (length ns) (λ e. omega arith) (λ e. omega arith) (λ e. omega arith) (λ e. omega arith) (λ e. omega arith)
-          (λ e. omega arith) (λ e. omega arith) ns refl))
-
--- ---- bytes
-
--- what stands behind a space
-pub behind_space : (line : List ℕ) (e : ℕ) → e < length line → drop e line ≡ get_or line e 0
-    ∷ take (length line - (e + 1)) (drop (e + 1) line)
-behind_space line e h =
-    drop-cons line e 0 h ∙ ap (λ (k : ℕ). get_or line e 0 ∷ drop k line) (sym (add-one e))
-    ∙ ap (λ (l : List ℕ). get_or line e 0
-    ∷ l) (sym (take_all (length line - (e + 1)) (drop (e + 1) line) (omega (arith, length-drop (e + 1) line))))
-
--- what the answer of reading bytes tells
-pub not_bytes : (b : Bool) (k : ℕ) → bytes.Malformed ≡ cond b (bytes.Count k) bytes.Malformed → b ≡ false
-not_bytes true k e = absurd (let z : ◌≡◌ {A = ℕ} 0 1 = cc in omega arith)
-not_bytes false k e = refl
-
-pub are_bytes : (b : Bool) (k n : ℕ) → bytes.Count n ≡ cond b (bytes.Count k) bytes.Malformed → (b ≡ true) × (n ≡ k)
-are_bytes true k n e = (refl, cc)
-are_bytes false k n e = absurd (let z : ◌≡◌ {A = ℕ} 0 1 = cc in omega arith)
+-- more numbers than there is room for
+pub few_long : (most : ℕ) (ns : List ℕ) (o : Option (List ℕ)) → most < length ns → few most (prepend ns o) ≡ None
+few_long most ns None h = refl
+few_long most ns (Some ms) h = rw (lt-leb (length (ns ++ ms)) most (omega (arith, length-append ns ms)))

@@ -1,14 +1,11 @@
 -- A line of a script read as a command. Definitions.
 -- Assumes nothing.
-use Rattle.std.specs.Prelude.{◌≡◌, Bool, false, cond, ◌&&◌, ◌||◌, List, [], ◌∷◌, ℕ, ◌+◌, ◌*◌, leb, ltb, eqb, length, drop}
-use Rattle.std.proofs.Math.Option.{Option, none, some}
+use Rattle.std.specs.Prelude.{◌≡◌, Bool, false, cond, Option, Some, None, ◌&&◌, ◌||◌, List, [], ◌∷◌, ℕ, ◌+◌, ◌*◌, leb, ltb, eqb, length, drop}
 use Prim.Native.String.{String}
 use Rattle.std.proofs.lemmas.List.Edits.{sets}
 use Rattle.notation.specs.Ascii.{ascii}
 use Rattle.notation.specs.Words.{number_of}
 use Rattle.notation.specs.Hex.{bytes_of, is_bytes}
-use Rattle.notation.specs.declared.Number.{Number}
-use Rattle.notation.specs.declared.Number.TheVariants as number
 use Rattle.script.specs.declared.Command.{Command}
 use Rattle.script.specs.declared.Command.TheVariants.{
   Open,
@@ -27,7 +24,6 @@ use Rattle.script.specs.declared.Command.TheVariants.{
   Poke,
   Hold,
   Rec,
-  Malformed,
 }
 
 -- ---- words
@@ -64,13 +60,13 @@ arguments [] = []
 arguments (c ∷ l) = words l
 
 -- the numbers that words are, where each is one
-abbrev pub one_more : Number → Option (List ℕ) → Option (List ℕ)
-one_more (number.Of n) (some ns) = some (n ∷ ns)
-one_more (number.Of n) none = none
-one_more number.Malformed ns = none
+abbrev pub one_more : Option ℕ → Option (List ℕ) → Option (List ℕ)
+one_more (Some n) (Some ns) = Some (n ∷ ns)
+one_more (Some n) None = None
+one_more None ns = None
 
 unfoldable pub numbers_of : List (List ℕ) → Option (List ℕ)
-numbers_of [] = some []
+numbers_of [] = Some []
 numbers_of (w ∷ ws) = one_more (number_of w) (numbers_of ws)
 
 -- ---- names
@@ -90,7 +86,7 @@ named name s = eqb name (name_of (ascii s))
 
 -- ---- commands
 
-unfoldable pub is_one_of : ℕ → List ℕ → Bool
+abbrev pub is_one_of : ℕ → List ℕ → Bool
 is_one_of n [] = false
 is_one_of n (k ∷ ks) = eqb n k || is_one_of n ks
 
@@ -112,64 +108,64 @@ unfoldable pub held_most : ℕ → ℕ → ℕ
 held_most list field = cond (eqb field 1) 65535 (cond (ltb field 3 || eqb list 1) 255 4294967295)
 
 -- commands without a number, with one, two, four, five, six and seven
-unfoldable pub of_none : ℕ → Command
+unfoldable pub of_none : ℕ → Option Command
 of_none name =
-    cond (named name "size") Size
-    (cond (named name "show") Show
-    (cond (named name "state") State
-    (cond (named name "held") Held Malformed)))
+    cond (named name "size") (Some Size)
+    (cond (named name "show") (Some Show)
+    (cond (named name "state") (Some State)
+    (cond (named name "held") (Some Held) None)))
 
-unfoldable pub of_one : ℕ → ℕ → Command
+unfoldable pub of_one : ℕ → ℕ → Option Command
 of_one name a =
-    cond (named name "flush") (Flush a)
-    (cond (named name "update") (Update a)
-    (cond (named name "check") (Check a)
-    (cond (named name "read" && leb a 60000) (Read a) Malformed)))
+    cond (named name "flush") (Some (Flush a))
+    (cond (named name "update") (Some (Update a))
+    (cond (named name "check") (Some (Check a))
+    (cond (named name "read" && leb a 60000) (Some (Read a)) None)))
 
-unfoldable pub of_two : ℕ → ℕ → ℕ → Command
+unfoldable pub of_two : ℕ → ℕ → ℕ → Option Command
 of_two name a b =
-    cond (named name "jump") (Jump a b)
-    (cond (named name "lend" && leb a 5) (Lend a b)
-    (cond (named name "poke" && is_field a && leb b (field_most a)) (Poke a b) Malformed))
+    cond (named name "jump") (Some (Jump a b))
+    (cond (named name "lend" && leb a 5) (Some (Lend a b))
+    (cond (named name "poke" && is_field a && leb b (field_most a)) (Some (Poke a b)) None))
 
-unfoldable pub of_four : ℕ → ℕ → ℕ → ℕ → ℕ → Command
+unfoldable pub of_four : ℕ → ℕ → ℕ → ℕ → ℕ → Option Command
 of_four name list index field value =
-    cond (named name "hold" && has_field list field && leb value (held_most list field)) (Hold list index field value) Malformed
+    cond (named name "hold" && has_field list field && leb value (held_most list field)) (Some (Hold list index field value)) None
 
-unfoldable pub of_five : ℕ → ℕ → ℕ → ℕ → ℕ → ℕ → Command
+unfoldable pub of_five : ℕ → ℕ → ℕ → ℕ → ℕ → ℕ → Option Command
 of_five name a b c d e =
-    cond (named name "open") (Open a b c d e 0 0)
-    (cond (named name "rec" && ltb a 128 && leb e 65535) (Rec a b c d e) Malformed)
+    cond (named name "open") (Some (Open a b c d e 0 0))
+    (cond (named name "rec" && ltb a 128 && leb e 65535) (Some (Rec a b c d e)) None)
 
-unfoldable pub of_six : ℕ → ℕ → ℕ → ℕ → ℕ → ℕ → ℕ → Command
-of_six name a b c d e f = cond (named name "open") (Open a b c d e f 0) Malformed
+unfoldable pub of_six : ℕ → ℕ → ℕ → ℕ → ℕ → ℕ → ℕ → Option Command
+of_six name a b c d e f = cond (named name "open") (Some (Open a b c d e f 0)) None
 
-unfoldable pub of_seven : ℕ → ℕ → ℕ → ℕ → ℕ → ℕ → ℕ → ℕ → Command
-of_seven name a b c d e f g = cond (named name "open") (Open a b c d e f g) Malformed
+unfoldable pub of_seven : ℕ → ℕ → ℕ → ℕ → ℕ → ℕ → ℕ → ℕ → Option Command
+of_seven name a b c d e f g = cond (named name "open") (Some (Open a b c d e f g)) None
 
-abbrev pub of_numbers : ℕ → List ℕ → Command
+abbrev pub of_numbers : ℕ → List ℕ → Option Command
 of_numbers name [] = of_none name
 of_numbers name (a ∷ []) = of_one name a
 of_numbers name (a ∷ b ∷ []) = of_two name a b
-of_numbers name (a ∷ b ∷ c ∷ []) = Malformed
+of_numbers name (a ∷ b ∷ c ∷ []) = None
 of_numbers name (a ∷ b ∷ c ∷ d ∷ []) = of_four name a b c d
 of_numbers name (a ∷ b ∷ c ∷ d ∷ e ∷ []) = of_five name a b c d e
 of_numbers name (a ∷ b ∷ c ∷ d ∷ e ∷ f ∷ []) = of_six name a b c d e f
 of_numbers name (a ∷ b ∷ c ∷ d ∷ e ∷ f ∷ g ∷ []) = of_seven name a b c d e f g
-of_numbers name (a ∷ b ∷ c ∷ d ∷ e ∷ f ∷ g ∷ h ∷ ns) = Malformed
+of_numbers name (a ∷ b ∷ c ∷ d ∷ e ∷ f ∷ g ∷ h ∷ ns) = None
 
-abbrev pub with_numbers : ℕ → Option (List ℕ) → Command
-with_numbers name none = Malformed
-with_numbers name (some ns) = of_numbers name ns
+abbrev pub with_numbers : ℕ → Option (List ℕ) → Option Command
+with_numbers name None = None
+with_numbers name (Some ns) = of_numbers name ns
 
 -- commands with bytes, no more than there is room for: all that is behind one space
 abbrev pub takes_bytes : ℕ → Bool
 takes_bytes name = named name "send" || named name "input"
 
-abbrev pub with_bytes : ℕ → List ℕ → ℕ → Command
-with_bytes name [] room = Malformed
-with_bytes name (c ∷ w) room = cond (is_bytes w room) (cond (named name "send") (Send (length (bytes_of w))) (Input (length (bytes_of w))))
-    Malformed
+abbrev pub with_bytes : ℕ → List ℕ → ℕ → Option Command
+with_bytes name [] room = None
+with_bytes name (c ∷ w) room = cond (is_bytes w room) (cond (named name "send") (Some (Send (length (bytes_of w)))) (Some (Input (length (bytes_of w)))))
+    None
 
 -- the bytes of a command at the start of `was`
 abbrev pub stored_bytes : List ℕ → List ℕ → List ℕ
@@ -179,9 +175,9 @@ stored_bytes (c ∷ w) was = cond (is_bytes w (length was)) (sets was 0 (bytes_o
 -- ---- lines
 
 -- a line of at most 65,000 characters
-unfoldable pub command_of : List ℕ → ℕ → Command
+unfoldable pub command_of : List ℕ → ℕ → Option Command
 command_of line room =
-    cond (ltb 65000 (length line)) Malformed
+    cond (ltb 65000 (length line)) None
     (cond (takes_bytes (name_of (word line))) (with_bytes (name_of (word line)) (behind_word line) room)
     (with_numbers (name_of (word line)) (numbers_of (arguments (behind_word line)))))
 
@@ -191,6 +187,6 @@ bytes_left line was =
     (cond (takes_bytes (name_of (word line))) (stored_bytes (behind_word line) was) was)
 
 -- a line's command, and the lent buffer after it
-pub record Parsed (line was : List ℕ) (r : Command) (is : List ℕ) : Type 0 where
+pub record Parsed (line was : List ℕ) (r : Option Command) (is : List ℕ) : Type 0 where
   pub command : r ≡ command_of line (length was)
   pub bytes : is ≡ bytes_left line was

@@ -1,4 +1,6 @@
 pub mod Commands
-pub mod Reading
 pub mod CommandLaws
 pub mod NameLaws
+pub mod Names
+pub mod Reading
+pub mod ParsedLaws

@@ -1,16 +1,17 @@
 // A line of a replay script read as a command. Words are parted by one space; numbers are decimal, bytes are hex.
 #![tactic(auto)]
 
+mod names;
 mod numbers;
-mod words;
+pub mod words;
 
-ghost use Rattle.std.specs.Prelude.{◌≡◌, length, drop};
-ghost use Rattle.script.specs.Commands.{is_field, field_most, has_field, held_most, of_none, of_one, of_two, of_four, of_five, of_six, of_seven};
-ghost use Rattle.script.specs.Commands.{with_numbers, with_bytes, stored_bytes, Parsed};
-ghost use Rattle.script.specs.Reading.{read_as};
+ghost use Rattle.std.specs.Prelude.{◌≡◌, length};
+ghost use Rattle.script.specs.Commands.{is_field, field_most, has_field, held_most, of_none, of_one, of_two, of_four, of_five, of_seven};
+ghost use Rattle.script.specs.Commands.{of_numbers, with_numbers, numbers_of, arguments, Parsed};
+ghost use Rattle.script.specs.Names.{number};
+ghost use Rattle.script.specs.Reading.{ReadBehind};
 
-use notation::Bytes;
-use numbers::Numbers;
+use names::Name;
 
 // The most bytes of a line, its newline not counted, and of a script.
 pub const LINE_MOST: usize = 65000;
@@ -67,39 +68,32 @@ pub enum Command {
         timeout: u32,
         skips: u32,
     },
-    Malformed,
 }
 
 // Commands without a number.
-fn of_none(name: u64) -> Command
-    ensures { result ≡ of_none name }
+fn of_none(name: Name) -> Option<Command>
+    ensures { result ≡ of_none (number name) }
 {
     match name {
-        words::SIZE => Command::Size,
-        words::SHOW => Command::Show,
-        words::STATE => Command::State,
-        words::HELD => Command::Held,
-        _ => Command::Malformed,
+        Name::Size => Some(Command::Size),
+        Name::Show => Some(Command::Show),
+        Name::State => Some(Command::State),
+        Name::Held => Some(Command::Held),
+        _ => None,
     }
 }
 
 // Commands with one number.
-fn of_one(name: u64, a: u32) -> Command
-    ensures { result ≡ of_one name a }
+fn of_one(name: Name, a: u32) -> Option<Command>
+    ensures { result ≡ of_one (number name) a }
 {
-    if name == words::FLUSH {
-        return Command::Flush(a);
+    match name {
+        Name::Flush => Some(Command::Flush(a)),
+        Name::Update => Some(Command::Update(a)),
+        Name::Check => Some(Command::Check(a)),
+        Name::Read => (a as usize <= ROOM_MOST).then_some(Command::Read(a)),
+        _ => None,
     }
-    if name == words::UPDATE {
-        return Command::Update(a);
-    }
-    if name == words::CHECK {
-        return Command::Check(a);
-    }
-    if (name == words::READ) & (a as usize <= ROOM_MOST) {
-        return Command::Read(a);
-    }
-    Command::Malformed
 }
 
 // The fields of the control block that can be poked.
@@ -110,43 +104,42 @@ fn is_field(field: u32) -> bool
 }
 
 // The largest value of a field of the control block; nothing above its width is a value.
+#[tactic(auto, using(std::proofs::lemmas::Bool::Decides::nat_tests), unfolding(crate::specs::Commands::field_most))]
 fn field_most(field: u32) -> u32
     ensures { result ≡ field_most field }
 {
-    if (field == 1) | (field == 3) | (field == 9) | (field == 18) {
-        return 65535;
+    match field {
+        1 | 3 | 9 | 18 => 65535,
+        2 | 4 | 19 | 20 => 255,
+        _ => u32::MAX,
     }
-    if (field == 2) | (field == 4) | (field == 19) | (field == 20) {
-        return 255;
-    }
-    4294967295
 }
 
 // Commands with two numbers.
-fn of_two(name: u64, a: u32, b: u32) -> Command
-    ensures { result ≡ of_two name a b }
+fn of_two(name: Name, a: u32, b: u32) -> Option<Command>
+    ensures { result ≡ of_two (number name) a b }
 {
-    if name == words::JUMP {
-        return Command::Jump { snd: a, rcv: b };
+    match name {
+        Name::Jump => Some(Command::Jump { snd: a, rcv: b }),
+        Name::Lend => (a <= 5).then_some(Command::Lend { part: a, count: b }),
+        Name::Poke => (is_field(a) && b <= field_most(a)).then_some(Command::Poke {
+            field: a,
+            value: b,
+        }),
+        _ => None,
     }
-    if (name == words::LEND) & (a <= 5) {
-        return Command::Lend { part: a, count: b };
-    }
-    if (name == words::POKE) & is_field(a) & (b <= field_most(a)) {
-        return Command::Poke { field: a, value: b };
-    }
-    Command::Malformed
 }
 
 // The largest value of a field of a held segment: slot, length, fragment, and transmissions or number.
+#[tactic(auto, using(std::proofs::lemmas::Bool::Decides::nat_tests), unfolding(crate::specs::Commands::held_most))]
 fn held_most(list: u32, field: u32) -> u32
     ensures { result ≡ held_most list field }
 {
     match field {
-        0 => 255,
         1 => 65535,
-        2 => 255,
-        _ => { if list == 1 { 255 } else { 4294967295 } }
+        0 | 2 => 255,
+        _ if list == 1 => 255,
+        _ => u32::MAX,
     }
 }
 
@@ -154,134 +147,114 @@ fn held_most(list: u32, field: u32) -> u32
 fn has_field(list: u32, field: u32) -> bool
     ensures { result ≡ has_field list field }
 {
-    (list <= 3) & (field <= 3) & ((field < 3) | (list == 1) | (list == 3))
+    list <= 3 && (field < 3 || field == 3 && (list == 1 || list == 3))
 }
 
 // Commands with four numbers.
-fn of_four(name: u64, list: u32, index: u32, field: u32, value: u32) -> Command
-    ensures { result ≡ of_four name list index field value }
+fn of_four(name: Name, list: u32, index: u32, field: u32, value: u32) -> Option<Command>
+    ensures { result ≡ of_four (number name) list index field value }
 {
-    if (name == words::HOLD) & has_field(list, field) & (value <= held_most(list, field)) {
-        return Command::Hold {
-            list,
-            index,
-            field,
-            value,
-        };
+    match name {
+        Name::Hold => (has_field(list, field) && value <= held_most(list, field)).then_some(
+            Command::Hold {
+                list,
+                index,
+                field,
+                value,
+            },
+        ),
+        _ => None,
     }
-    Command::Malformed
+}
+
+// An opening, with seven numbers; the last ones are 0 where a line leaves them out.
+fn opening(
+    name: Name,
+    conv: u32,
+    mtu: u32,
+    mode: u32,
+    interval: u32,
+    threshold: u32,
+    stream: u32,
+    congestion: u32,
+) -> Option<Command>
+    ensures { result ≡ of_seven (number name) conv mtu mode interval threshold stream congestion }
+{
+    match name {
+        Name::Open => Some(Command::Open {
+            conv,
+            mtu,
+            mode,
+            interval,
+            threshold,
+            stream,
+            congestion,
+        }),
+        _ => None,
+    }
 }
 
 // Commands with five numbers.
-fn of_five(name: u64, a: u32, b: u32, c: u32, d: u32, e: u32) -> Command
-    ensures { result ≡ of_five name a b c d e }
+fn of_five(name: Name, a: u32, b: u32, c: u32, d: u32, e: u32) -> Option<Command>
+    ensures { result ≡ of_five (number name) a b c d e }
 {
-    if name == words::OPEN {
-        return Command::Open {
-            conv: a,
-            mtu: b,
-            mode: c,
-            interval: d,
-            threshold: e,
-            stream: 0,
-            congestion: 0,
-        };
-    }
-    if (name == words::REC) & (a < 128) & (e <= 65535) {
-        return Command::Rec {
+    match name {
+        Name::Rec => (a < 128 && e <= 65535).then_some(Command::Rec {
             slot: a,
             number: b,
             due: c,
             timeout: d,
             skips: e,
-        };
+        }),
+        _ => opening(name, a, b, c, d, e, 0, 0),
     }
-    Command::Malformed
-}
-
-// Commands with six numbers.
-fn of_six(name: u64, a: u32, b: u32, c: u32, d: u32, e: u32, f: u32) -> Command
-    ensures { result ≡ of_six name a b c d e f }
-{
-    if name == words::OPEN {
-        return Command::Open {
-            conv: a,
-            mtu: b,
-            mode: c,
-            interval: d,
-            threshold: e,
-            stream: f,
-            congestion: 0,
-        };
-    }
-    Command::Malformed
-}
-
-// Commands with seven numbers.
-fn of_seven(name: u64, a: u32, b: u32, c: u32, d: u32, e: u32, f: u32, g: u32) -> Command
-    ensures { result ≡ of_seven name a b c d e f g }
-{
-    if name == words::OPEN {
-        return Command::Open {
-            conv: a,
-            mtu: b,
-            mode: c,
-            interval: d,
-            threshold: e,
-            stream: f,
-            congestion: g,
-        };
-    }
-    Command::Malformed
 }
 
 // A command with numbers, by how many there are.
-fn of_numbers(name: u64, n: Numbers) -> Command
-    ensures { result ≡ with_numbers name (read_as n) }
+fn of_numbers(name: Name, numbers: &[u32]) -> Option<Command>
+    ensures { result ≡ of_numbers (number name) numbers.now }
 {
-    let count = n.count;
-    let at = n.at;
-    match count {
-        0 => of_none(name),
-        1 => of_one(name, at[0]),
-        2 => of_two(name, at[0], at[1]),
-        4 => of_four(name, at[0], at[1], at[2], at[3]),
-        5 => of_five(name, at[0], at[1], at[2], at[3], at[4]),
-        6 => of_six(name, at[0], at[1], at[2], at[3], at[4], at[5]),
-        7 => of_seven(name, at[0], at[1], at[2], at[3], at[4], at[5], at[6]),
-        _ => Command::Malformed,
+    match numbers {
+        [] => of_none(name),
+        [a] => of_one(name, *a),
+        [a, b] => of_two(name, *a, *b),
+        [a, b, c, d] => of_four(name, *a, *b, *c, *d),
+        [a, b, c, d, e] => of_five(name, *a, *b, *c, *d, *e),
+        [a, b, c, d, e, f] => opening(name, *a, *b, *c, *d, *e, *f, 0),
+        [a, b, c, d, e, f, g] => opening(name, *a, *b, *c, *d, *e, *f, *g),
+        _ => None,
     }
 }
 
-// A command with bytes, which are stored at the start of `bytes`: they are the whole of the line behind one space.
-fn of_bytes(name: u64, line: &[u8], end: usize, bytes: &mut [u8]) -> Command
-    ensures { (result ≡ with_bytes name (drop end line.now) (length bytes.old)) ×
-        (bytes.new ≡ stored_bytes (drop end line.now) bytes.old) }
+// A command with the numbers behind its name. None has more than seven.
+fn with_numbers(name: Name, behind: &[u8]) -> Option<Command>
+    ensures { result ≡ with_numbers (number name) (numbers_of (arguments behind.now)) }
 {
-    if end < line.len() {
-        let read = notation::read::bytes(&line[end + 1..], bytes);
-        let Bytes::Count(n) = read else {
-            return Command::Malformed;
-        };
-        if name == words::SEND {
-            return Command::Send(n);
-        }
-        return Command::Input(n);
-    }
-    Command::Malformed
+    let mut room = [0; 7];
+    let count = numbers::behind(behind, &mut room)?;
+    of_numbers(name, &room[..count])
 }
 
-// The command of a line without its newline.
-pub fn parse(line: &[u8], bytes: &mut [u8]) -> Command
+// The bytes of a command are the whole of the line behind one space; they are stored at the start of `bytes`.
+fn bytes_behind(behind: &[u8], bytes: &mut [u8]) -> Option<usize>
+    ensures { ReadBehind behind.now bytes.old result bytes.new }
+{
+    let (_, word) = behind.split_first()?;
+    notation::read::bytes(word, bytes)
+}
+
+// The command of a line without its newline; none where it is malformed.
+pub fn parse(line: &[u8], bytes: &mut [u8]) -> Option<Command>
     ensures { Parsed line.now bytes.old result bytes.new }
 {
     if LINE_MOST < line.len() {
-        return Command::Malformed;
+        return None;
     }
-    let end = words::word_end(line, 0);
-    let name = words::name(&line[..end]);
-    if (name == words::SEND) | (name == words::INPUT) {
-        return of_bytes(name, line, end, bytes);
+    let (word, behind) = words::split_before(line, words::SPACE);
+    let name = names::of_word(word)?;
+    match name {
+        Name::Send => bytes_behind(behind, bytes).map(Command::Send),
+        Name::Input => bytes_behind(behind, bytes).map(Command::Input),
+        _ => with_numbers(name, behind),
     }
-    of_numbers(name, numbers::behind(line, end))
 }

@@ -1,48 +1,27 @@
 // The numbers of a line.
-ghost use Rattle.std.specs.Prelude.{◌≡◌, ◌≤◌, length, drop};
+ghost use Rattle.std.specs.Prelude.{◌≡◌, ◌≤◌, IfSome, length};
 ghost use Rattle.script.specs.Commands.{arguments, numbers_of};
 ghost use Rattle.script.specs.Reading.{few, read_as};
 
-use crate::words;
-use notation::Number;
+use crate::words::{SPACE, split_before};
 
-// The numbers of a line, in its order, and how many there are; more than 8 where the line is malformed.
-#[derive(Clone, Copy)]
-pub(crate) struct Numbers {
-    pub(crate) at: [u32; 8],
-    pub(crate) count: usize,
-}
-
-// No command has so many numbers.
-const TOO_MANY: usize = 9;
-
-// The numbers behind `from`, where a line ends or a space stands, with one space in front of each.
-pub(crate) fn behind(line: &[u8], from: usize) -> Numbers
-    requires { from ≤ length line.now }
-    ensures { read_as result ≡ few (numbers_of (arguments (drop from line.now))) }
+// The numbers behind a word, with one space in front of each, are stored at the start of `room`; the answer is their count.
+// There is none where a word is no number, or there are more than there is room for.
+pub(crate) fn behind(line: &[u8], room: &mut [u32]) -> Option<usize>
+    ensures { (read_as room.new result ≡ few (length room.old) (numbers_of (arguments line.now)))
+        × IfSome result (λ n. n ≤ length room.old) }
 {
-    let mut at: [u32; 8] = [0; 8];
-    let mut count: usize = 0;
-    let mut here = from;
-    while here < line.len() {
-        let start = here + 1;
-        let end = words::word_end(line, start);
-        let read = notation::read::number(&line[start..end]);
-        let Number::Of(n) = read else {
-            return Numbers {
-                at,
-                count: TOO_MANY,
-            };
-        };
-        if 8 <= count {
-            return Numbers {
-                at,
-                count: TOO_MANY,
-            };
+    let mut rest = line;
+    let mut count = 0;
+    while let Some((_, words)) = rest.split_first() {
+        let (word, behind) = split_before(words, SPACE);
+        let n = notation::read::number(word)?;
+        if room.len() <= count {
+            return None;
         }
-        at[count] = n;
+        room[count] = n;
         count += 1;
-        here = end;
+        rest = behind;
     }
-    Numbers { at, count }
+    Some(count)
 }

@@ -10,7 +10,7 @@ use Rattle.protocol.specs.declared.Settings.{Settings}
 use Rattle.datagram.specs.Datagrams.{Segment}
 use Rattle.congestion.specs.Congestions.{used_window, after_flush}
 use Rattle.congestion.specs.declared.Losses.{Losses}
-use Rattle.retransmission.specs.Transmissions.{transmission}
+use Rattle.retransmission.specs.Transmissions.{is_sent, is_late, is_fast, transmission}
 use Rattle.retransmission.specs.declared.Transmission.{Transmission}
 use Rattle.timing.specs.Probes.{next_clock}
 use Rattle.lists.specs.declared.Held.{Held}
@@ -65,7 +65,7 @@ afterwards = map after_rule
 -- those that are transmitted, as they are then
 unfoldable pub transmitted : List Ruled → List Sent
 transmitted [] = []
-transmitted (r ∷ rules) = cond r.rule.sends (after_rule r ∷ transmitted rules) (transmitted rules)
+transmitted (r ∷ rules) = cond (is_sent r.rule) (after_rule r ∷ transmitted rules) (transmitted rules)
 
 -- the test holds of one of them
 abbrev pub some : {A : Type 0} → (A → Bool) → List A → Bool
@@ -82,8 +82,8 @@ abbrev pub losses_of : State → ℕ → List Ruled → Losses
 losses_of s k rules =
     let d = s.sending in
     record {
-      fast = some (λ (r : Ruled). r.rule.fast) rules;
-      late = some (λ (r : Ruled). r.rule.late) rules;
+      fast = some (λ (r : Ruled). is_fast r.rule) rules;
+      late = some (λ (r : Ruled). is_late r.rule) rules;
       skips = s.settings.threshold;
       inflight = minus (plus d.next k) d.una;
       used = window_of s;

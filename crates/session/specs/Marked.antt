@@ -12,7 +12,7 @@ use Rattle.datagram.specs.Datagrams.{Segment, Parsed, parse, walk, tail, verdict
 use Rattle.timing.specs.Probes.{stopped, longer_wait, next_clock}
 use Rattle.timing.specs.RoundTrips.{next_smoothed, next_variation, least_timeout, timeout_of, sampled}
 use Rattle.congestion.specs.Congestions.{used_window}
-use Rattle.retransmission.specs.Transmissions.{first_due, growth, longer_timeout, is_skipped, transmission}
+use Rattle.retransmission.specs.Transmissions.{first_due, growth, longer_timeout, is_skipped, is_sent, transmission}
 use Rattle.timing.specs.declared.ProbeClock.{ProbeClock}
 use Rattle.timing.specs.declared.Record.{Record}
 use Rattle.timing.specs.declared.RoundTrip.{RoundTrip}
@@ -92,7 +92,7 @@ unfoldable pub after_flushes : Settings → ℕ → ℕ → Record → List ℕ 
 after_flushes c link n r [] = []
 after_flushes c link n r (t ∷ ts) =
     let x = transmission c link t n r in
-    record { sends = x.sends; due = x.updated.due } ∷ after_flushes c link x.transmissions x.updated ts
+    record { sends = is_sent x; due = x.updated.due } ∷ after_flushes c link x.transmissions x.updated ts
 
 abbrev in_mode : ℕ → Settings
 in_mode mode = record { conv = 1; mtu = 50; interval = 100; mode = mode; threshold = 0; stream = 0; congestion = 0 }

@@ -5,6 +5,7 @@ use Rattle.std.proofs.Common.{ap, ◌∙◌, zero-le, arith}
 use Rattle.protocol.specs.declared.Settings.{Settings}
 use Rattle.lists.specs.declared.Sent.{Sent}
 use Rattle.congestion.specs.declared.Losses.{Losses}
+use Rattle.retransmission.specs.Transmissions.{is_sent}
 use Rattle.session.specs.State.{State}
 use Rattle.session.specs.Flushing.{
   window_of,
@@ -33,7 +34,7 @@ losses_at s t =
 transmitted_append : (a b : List Ruled) → transmitted (a ++ b) ≡ transmitted a ++ transmitted b
 unfolding transmitted
 transmitted_append [] b = refl
-transmitted_append (r ∷ a) b = rw (transmitted_append a b) (by_rule r.rule.sends)
+transmitted_append (r ∷ a) b = rw (transmitted_append a b) (by_rule (is_sent r.rule))
   where
     by_rule : (sends : Bool) → cond sends (after_rule r ∷ (transmitted a ++ transmitted b)) (transmitted a ++ transmitted b)
         ≡ cond sends (after_rule r ∷ transmitted a) (transmitted a) ++ transmitted b
@@ -49,7 +50,7 @@ sent_append c timeout t a b =
 pub all_transmitted : (P : Sent → Type 0) (l : List Ruled) → All P (afterwards l) → All P (transmitted l)
 unfolding transmitted
 all_transmitted P [] a = tt
-all_transmitted P (r ∷ l) a = go r.rule.sends (all_transmitted P l a.1)
+all_transmitted P (r ∷ l) a = go (is_sent r.rule) (all_transmitted P l a.1)
   where
     go : (sends : Bool) → All P (transmitted l) → All P (cond sends (after_rule r ∷ transmitted l) (transmitted l))
     go true i = (a.0, i)
@@ -58,7 +59,7 @@ all_transmitted P (r ∷ l) a = go r.rule.sends (all_transmitted P l a.1)
 pub transmitted_few : (l : List Ruled) → length (transmitted l) ≤ length l
 unfolding transmitted
 transmitted_few [] = zero-le
-transmitted_few (r ∷ l) = go r.rule.sends (transmitted_few l)
+transmitted_few (r ∷ l) = go (is_sent r.rule) (transmitted_few l)
   where
     go : (sends : Bool) → length (transmitted l) ≤ length l
         → length (cond sends (after_rule r ∷ transmitted l) (transmitted l)) ≤ suc (length l)

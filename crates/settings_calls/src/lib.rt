@@ -1,21 +1,28 @@
-// Settings files for C: a number below zero is a refusal's.
+// Settings files for C: a number below zero is a refusal's. The settings come and go as the seven numbers of the C interface.
 #![tactic(auto)]
 
 ghost use Rattle.std.specs.Prelude.{◌≡◌};
-ghost use Rattle.codes.specs.Codes.{settings_of};
-ghost use Rattle.settings_file.specs.Files.{Writes, read_from};
+ghost use Rattle.codes.specs.Codes.{number_code, settings_of};
+ghost use Rattle.settings_file.specs.Files.{number_of, Writes, read_from};
 ghost use Rattle.codes.specs.Gives.{Gives};
 ghost use Rattle.settings_calls.specs.SettingsFiles.{writing_code, numbers, Stores};
 
-use settings_file::{Reading, Writing};
+use settings_file::FileRefusal;
+
+// A refusal's number, below zero.
+fn refusal_code(refusal: FileRefusal) -> i32
+    ensures { result ≡ number_code (number_of refusal) }
+{
+    codes::number_code(refusal.number())
+}
 
 // The count of a file's bytes, or the refusal.
-fn writing_code(writing: Writing) -> i32
+fn writing_code(writing: Result<usize, FileRefusal>) -> i32
     ensures { result ≡ writing_code writing }
 {
     match writing {
-        Writing::Wrote(n) => codes::size_code(n),
-        Writing::Refused(refusal) => codes::number_code(refusal.number()),
+        Ok(n) => codes::size_code(n),
+        Err(refusal) => refusal_code(refusal),
     }
 }
 
@@ -34,8 +41,7 @@ pub fn write(
         (λ a. Writes (settings_of conv mtu mode interval threshold stream congestion) file.old a file.new) result }
 {
     let settings = codes::settings(conv, mtu, mode, interval, threshold, stream, congestion);
-    let writing = settings_file::write(settings, file);
-    writing_code(writing)
+    writing_code(settings_file::write(settings, file))
 }
 
 // Reads a file: 0, and its settings are stored; or the refusal, and nothing is.
@@ -55,18 +61,17 @@ pub fn read(
         (numbers conv.new mtu.new mode.new interval.new threshold.new
         stream.new congestion.new) }
 {
-    let reading = settings_file::read(file);
-    match reading {
-        Reading::Settings(settings) => {
+    match settings_file::read(file) {
+        Ok(settings) => {
             *conv = settings.conv;
-            *mtu = settings.mtu as u32;
-            *mode = settings.mode as u32;
-            *interval = settings.interval as u32;
-            *threshold = settings.threshold as u32;
-            *stream = settings.stream as u32;
-            *congestion = settings.congestion as u32;
+            *mtu = u32::from(settings.mtu);
+            *mode = u32::from(settings.mode);
+            *interval = u32::from(settings.interval);
+            *threshold = u32::from(settings.threshold);
+            *stream = u32::from(settings.stream);
+            *congestion = u32::from(settings.congestion);
             0
         }
-        Reading::Refused(refusal) => codes::number_code(refusal.number()),
+        Err(refusal) => refusal_code(refusal),
     }
 }

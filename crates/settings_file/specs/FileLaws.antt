@@ -1,12 +1,14 @@
 -- Laws of `Files`: the two round trips, and that one setting has one file.
 -- Assumes nothing.
-use Rattle.std.specs.Prelude.{◌≡◌, Bool, true, cond, ◌&&◌, leb, length, take, drop, get_or}
+use Rattle.std.proofs.Math.Bool.{and-false}
+use Rattle.std.proofs.lemmas.Bool.{and_parts}
+use Rattle.std.proofs.lemmas.Slice.Eq.{bytes_eq-Decides}
+use Rattle.std.specs.Prelude.{◌≡◌, Ok, Err, Bool, true, cond, ◌&&◌, leb, length, take, drop}
 use Rattle.std.proofs.Math.Path.{refl, ap}
-use Rattle.std.proofs.Common.{sym, ◌∙◌, add-one, take-suc, take-add, take_all, drop-drop}
+use Rattle.std.proofs.Common.{sym, ◌∙◌, take-add, take_all, drop-drop}
 use Rattle.std.proofs.Math.Bool.{false}
 use mathlib.Core.List.{List, ◌++◌}
-use Prim.Native.Nat.{ℕ, zero, suc, ◌+◌, ◌^◌, ◌≤◌, ◌<◌}
-use Rattle.std.proofs.Math.Decide.{dec_lt}
+use Prim.Native.Nat.{ℕ, ◌+◌, ◌^◌, ◌≤◌, ◌<◌}
 use native.Mathlib.Omega.{arith}
 use borrow.Author.Tests.{le-leb, lt-leb, leb-true, eq-eqb, ne_eqb, eqb-true}
 use Rattle.std.proofs.Math.Dec.{eqb}
@@ -18,8 +20,7 @@ use Rattle.protocol.specs.declared.Settings.{Settings}
 use Rattle.wire.specs.LittleEndian.{bytes_of, number_at, AllBytes}
 use Rattle.wire.specs.LittleEndianLaws.{number_of_bytes, bytes_of_number, length_bytes_of}
 use Rattle.wire.specs.Stores.{sets_append}
-use Rattle.settings_file.specs.Files.{fits_first, magic, front, back, added, first_of, second_of, file_of, write_into, Writes, same_first, has_magic, settings_at, read_first, read_second, read_from}
-use Rattle.settings_file.specs.declared.FileRefusal.{FileRefusal}
+use Rattle.settings_file.specs.Files.{fits_first, magic, front, back, added, first_of, second_of, file_of, write_into, Writes, has_magic, settings_at, read_first, read_second, read_from}
 use Rattle.settings_file.specs.declared.FileRefusal.TheVariants.{
   ShortPart,
   SettingOutOfRange,
@@ -27,8 +28,6 @@ use Rattle.settings_file.specs.declared.FileRefusal.TheVariants.{
   UnknownVersion,
   NeedlessVersion,
 }
-use Rattle.settings_file.specs.declared.Writing.TheVariants as writing
-use Rattle.settings_file.specs.declared.Reading.TheVariants as reading
 
 -- each setting fits its bytes, as its type says
 pub record SettingsFit (c : Settings) : Type 0 where
@@ -115,68 +114,35 @@ module _ (c : Settings) (l : List ℕ) where
   unfolding second_of
   second_put e p q r = rw e (sym (length_second c), (simp (sets_append, length-append, length_front, length_back) (cc)))
 
--- ---- the magic
-
-and_parts : (a b : Bool) → (a && b) ≡ true → (a ≡ true) × (b ≡ true)
-and_parts true b e = (refl, e)
-and_parts false b e = absurd (let z : ◌≡◌ {A = ℕ} 0 1 = cc in omega arith)
-
-and-false : (a : Bool) → (a && false) ≡ false
-and-false true = refl
-and-false false = refl
-
-module _ (a b : List ℕ) where
-  -- one byte more
-  pub same_more : (n : ℕ) → same_first n a b ≡ true → get_or a n 0 ≡ get_or b n 0 → same_first (n + 1) a b ≡ true
-  unfolding same_first
-  same_more n h e = rw (add-one n, h, eq-eqb (get_or a n 0) (get_or b n 0) e)
-
-  -- a byte that differs
-  pub not_same : (n i : ℕ) → i < n → (get_or a i 0 ≡ get_or b i 0 → ⊥) → same_first n a b ≡ false
-  unfolding same_first
-  not_same zero i h d = absurd (omega arith)
-  not_same (suc n) i h d = go (dec_lt i n) (λ p. not_same n i p d)
-    where
-      go : Dec (i < n) → (i < n → same_first n a b ≡ false) → (same_first n a b && eqb (get_or a n 0) (get_or b n 0)) ≡ false
-      go (yes p) before = rw (before p)
-      go (no p) before = let e : n ≡ i = omega arith in rw (e, ne_eqb (get_or a i 0) (get_or b i 0) d) (and-false (same_first i a b))
-
-first_same : (n : ℕ) (a b : List ℕ) → n ≤ length a → n ≤ length b → same_first n a b ≡ true → take n a ≡ take n b
-unfolding same_first
-first_same zero a b p q e = refl
-first_same (suc n) a b p q e =
-    let h = and_parts (same_first n a b) (eqb (get_or a n 0) (get_or b n 0)) e in
-    rw (take-suc a n 0, take-suc b n 0, first_same n a b (omega arith) (omega arith) h.0, eqb-true (get_or a n 0) (get_or b n 0) h.1)
-
 -- ---- the tests, in turn
 
 ruleset tests = (eq-eqb, ne_eqb, le-leb, lt-leb)
 
 module _ (c : Settings) (l : List ℕ) where
-  pub no_room : length l < 17 → Writes c l (writing.Refused ShortPart) l
+  pub no_room : length l < 17 → Writes c l (Err ShortPart) l
   unfolding write_into
   no_room a = record { answer = rw (lt-leb 17 (length l) a); leaves = refl }
 
-  pub out_of_range : 17 ≤ length l → in_range c ≡ false → Writes c l (writing.Refused SettingOutOfRange) l
+  pub out_of_range : 17 ≤ length l → in_range c ≡ false → Writes c l (Err SettingOutOfRange) l
   unfolding write_into
   out_of_range a b = record { answer = rw (le-leb 17 (length l) a, b); leaves = refl }
 
   pub written : {n : ℕ} {m : List ℕ} → 17 ≤ length l → in_range c ≡ true → n ≡ length (file_of c) → m ≡ sets l 0 (file_of c)
-      → Writes c l (writing.Wrote n) m
+      → Writes c l (Ok n) m
   unfolding write_into
-  written a b p e = record { answer = ap writing.Wrote p ∙ rw (le-leb 17 (length l) a, b); leaves = e }
+  written a b p e = record { answer = ap Ok p ∙ rw (le-leb 17 (length l) a, b); leaves = e }
 
 module _ (f : List ℕ) where
-  pub short_file : length f < 5 → reading.Refused NotSettings ≡ read_from f
+  pub short_file : length f < 5 → Err NotSettings ≡ read_from f
   unfolding read_from
   short_file a = rw (lt-leb 5 (length f) a)
 
-  pub no_magic : 5 ≤ length f → has_magic f ≡ false → reading.Refused NotSettings ≡ read_from f
+  pub no_magic : has_magic f ≡ false → Err NotSettings ≡ read_from f
   unfolding read_from
-  no_magic a b = rw (le-leb 5 (length f) a, b)
+  no_magic b = rw (b, and-false)
 
   pub other_version : 5 ≤ length f → has_magic f ≡ true → (number_at 2 f 3 ≡ 1 → ⊥) → (number_at 2 f 3 ≡ 2 → ⊥)
-      → reading.Refused UnknownVersion ≡ read_from f
+      → Err UnknownVersion ≡ read_from f
   unfolding read_from
   other_version a b d e = rw (le-leb 5 (length f) a, b, ne_eqb (number_at 2 f 3) 1 d, ne_eqb (number_at 2 f 3) 2 e)
 
@@ -191,7 +157,7 @@ module _ (f : List ℕ) where
 -- ---- the round trips
 
 first_magic : (c : Settings) → has_magic (first_of c) ≡ true
-unfolding has_magic same_first first_of front bytes_of
+unfolding has_magic first_of front bytes_of
 first_magic c = refl
 
 first_version : (c : Settings) → number_at 2 (first_of c) 3 ≡ 1
@@ -199,7 +165,7 @@ unfolding first_of front bytes_of number_at
 first_version c = refl
 
 second_magic : (c : Settings) → has_magic (second_of c) ≡ true
-unfolding has_magic same_first second_of front bytes_of
+unfolding has_magic second_of front bytes_of
 second_magic c = refl
 
 second_version : (c : Settings) → number_at 2 (second_of c) 3 ≡ 2
@@ -207,10 +173,10 @@ unfolding second_of front bytes_of number_at
 second_version c = refl
 
 -- settings in range that are written and read back are returned
-pub read_written : (c : Settings) → SettingsFit c → in_range c ≡ true → read_from (file_of c) ≡ reading.Settings c
+pub read_written : (c : Settings) → SettingsFit c → in_range c ≡ true → read_from (file_of c) ≡ Ok c
 read_written c r range = go (fits_first c) refl
   where
-    go : (b : Bool) → fits_first c ≡ b → read_from (cond b (first_of c) (second_of c)) ≡ reading.Settings c
+    go : (b : Bool) → fits_first c ≡ b → read_from (cond b (first_of c) (second_of c)) ≡ Ok c
     go true e =
         let off = and_parts _ (eqb c.congestion 0) e in
         let stream = eqb-true c.stream 0 (and_parts (leb c.mtu 512) (eqb c.stream 0) off.0).1 in
@@ -219,12 +185,6 @@ read_written c r range = go (fits_first c) refl
     go false e =
         sym (of_second (second_of c) (omega (arith, length_second c)) (second_magic c) (second_version c))
         ∙ rw (length_second c, settings_of_second c r, range, e)
-
-same_settings : (c d : Settings) → reading.Settings c ≡ reading.Settings d → c ≡ d
-same_settings c d e = cc
-
-not_refused : (r : FileRefusal) (c : Settings) → reading.Refused r ≡ reading.Settings c → ⊥
-not_refused r c e = let z : ◌≡◌ {A = ℕ} 0 1 = cc in omega arith
 
 -- the bytes of f from i on, a of them and then b
 join : (a b i : ℕ) (f : List ℕ) → take a (drop i f) ++ take b (drop (i + a) f) ≡ take (a + b) (drop i f)
@@ -235,7 +195,7 @@ module _ (f : List ℕ) (b : AllBytes f) where
   front_of : (v : ℕ) → 5 ≤ length f → has_magic f ≡ true → number_at 2 f 3 ≡ v → front v ≡ take 5 f
   unfolding has_magic front
   front_of v long m e =
-      ap (λ (l : List ℕ). l ++ bytes_of 2 v) (sym (first_same 3 f magic (omega arith) (omega arith) m))
+      ap (λ (l : List ℕ). l ++ bytes_of 2 v) ((bytes_eq-Decides magic (take 3 f)).0 m)
       ∙ rw (← e, bytes_of_number 2 f 3 b (omega arith), join 3 2 0)
 
   back_of : (stream congestion : ℕ) → 15 ≤ length f → back (settings_at f stream congestion) ≡ take 10 (drop 5 f)
@@ -275,24 +235,24 @@ module _ (f : List ℕ) (b : AllBytes f) where
       (take_all 17 f (omega (arith, long)))
 
   -- a file of version 1 that is accepted is the one that writing gives
-  first_read : (c : Settings) → has_magic f ≡ true → number_at 2 f 3 ≡ 1 → read_first f ≡ reading.Settings c → f ≡ file_of c
+  first_read : (c : Settings) → has_magic f ≡ true → number_at 2 f 3 ≡ 1 → read_first f ≡ Ok c → f ≡ file_of c
   first_read c m v e = go (eqb (length f) 15) refl (in_range s && fits_first s) refl e
     where
       s : Settings
       s = settings_at f 0 0
 
       go : (d : Bool) → eqb (length f) 15 ≡ d → (g : Bool) → (in_range s && fits_first s) ≡ g
-          → cond d (cond g (reading.Settings s) (reading.Refused SettingOutOfRange)) (reading.Refused NotSettings) ≡ reading.Settings c
+          → cond d (cond g (Ok s) (Err SettingOutOfRange)) (Err NotSettings) ≡ Ok c
           → f ≡ file_of c
       go true l true fit h =
-          let same : s ≡ c = same_settings s c h in
+          let same : s ≡ c = cc in
           let fits : fits_first c ≡ true = ap fits_first (sym same) ∙ (and_parts (in_range s) (fits_first s) fit).1 in
           rw fits (sym (first_of_lem (eqb-true (length f) 15 l) m v) ∙ ap first_of same)
-      go true l false fit h = absurd (not_refused SettingOutOfRange c h)
-      go false l g fit h = absurd (not_refused NotSettings c h)
+      go true l false fit h = cc
+      go false l g fit h = cc
 
   -- and so is one of version 2
-  second_read : (c : Settings) → has_magic f ≡ true → number_at 2 f 3 ≡ 2 → read_second f ≡ reading.Settings c → f ≡ file_of c
+  second_read : (c : Settings) → has_magic f ≡ true → number_at 2 f 3 ≡ 2 → read_second f ≡ Ok c → f ≡ file_of c
   second_read c m v e = go (eqb (length f) 17) refl (in_range s) refl (fits_first s) refl e
     where
       s : Settings
@@ -300,37 +260,37 @@ module _ (f : List ℕ) (b : AllBytes f) where
 
       go : (d : Bool) → eqb (length f) 17 ≡ d → (g : Bool) → in_range s ≡ g → (n : Bool) → fits_first s ≡ n
           → cond d
-          (cond g (cond n (reading.Refused NeedlessVersion) (reading.Settings s)) (reading.Refused SettingOutOfRange))
-          (reading.Refused NotSettings)
-          ≡ reading.Settings c
+          (cond g (cond n (Err NeedlessVersion) (Ok s)) (Err SettingOutOfRange))
+          (Err NotSettings)
+          ≡ Ok c
           → f ≡ file_of c
       go true l true range false fit h =
-          let same : s ≡ c = same_settings s c h in
+          let same : s ≡ c = cc in
           let fits : fits_first c ≡ false = ap fits_first (sym same) ∙ fit in
           rw fits (sym (second_of_lem (eqb-true (length f) 17 l) m v) ∙ ap second_of same)
-      go true l true range true fit h = absurd (not_refused NeedlessVersion c h)
-      go true l false range n fit h = absurd (not_refused SettingOutOfRange c h)
-      go false l g range n fit h = absurd (not_refused NotSettings c h)
+      go true l true range true fit h = cc
+      go true l false range n fit h = cc
+      go false l g range n fit h = cc
 
 -- each file that is accepted is the one that writing gives
-pub written_read : (f : List ℕ) (c : Settings) → AllBytes f → read_from f ≡ reading.Settings c → f ≡ file_of c
+pub written_read : (f : List ℕ) (c : Settings) → AllBytes f → read_from f ≡ Ok c → f ≡ file_of c
 unfolding read_from
 written_read f c b e = go (leb 5 (length f) && has_magic f) refl (eqb (number_at 2 f 3) 1) refl (eqb (number_at 2 f 3) 2) refl e
   where
     go : (a : Bool) → (leb 5 (length f) && has_magic f) ≡ a
         → (p : Bool) → eqb (number_at 2 f 3) 1 ≡ p
         → (q : Bool) → eqb (number_at 2 f 3) 2 ≡ q
-        → cond a (cond p (read_first f) (cond q (read_second f) (reading.Refused UnknownVersion))) (reading.Refused NotSettings)
-        ≡ reading.Settings c
+        → cond a (cond p (read_first f) (cond q (read_second f) (Err UnknownVersion))) (Err NotSettings)
+        ≡ Ok c
         → f ≡ file_of c
     go true m true v q w h = first_read f b c (and_parts (leb 5 (length f)) (has_magic f) m).1 (eqb-true (number_at 2 f 3) 1 v) h
     go true m false v true w h = second_read f b c (and_parts (leb 5 (length f)) (has_magic f) m).1 (eqb-true (number_at 2 f 3) 2 w) h
-    go true m false v false w h = absurd (not_refused UnknownVersion c h)
-    go false m p v q w h = absurd (not_refused NotSettings c h)
+    go true m false v false w h = cc
+    go false m p v q w h = cc
 
 -- one setting has one file
 pub one_file : (f g : List ℕ) (c : Settings) → AllBytes f → AllBytes g
-    → read_from f ≡ reading.Settings c → read_from g ≡ reading.Settings c → f ≡ g
+    → read_from f ≡ Ok c → read_from g ≡ Ok c → f ≡ g
 one_file f g c a b p q = written_read f c a p ∙ sym (written_read g c b q)
 
 -- ---- the round trips, of the part that writing leaves
@@ -341,17 +301,17 @@ pub record Wrote (c : Settings) (before after : List ℕ) (n : ℕ) : Type 0 whe
   pub range : in_range c ≡ true
   pub file : take n after ≡ file_of c
 
-decides : (c : Settings) (n k : ℕ) → writing.Wrote n ≡ write_into c k → (17 ≤ k) × (in_range c ≡ true) × (n ≡ length (file_of c))
+decides : (c : Settings) (n k : ℕ) → Ok n ≡ write_into c k → (17 ≤ k) × (in_range c ≡ true) × (n ≡ length (file_of c))
 unfolding write_into
 decides c n k e = go (leb 17 k) refl (in_range c) refl e
   where
     go : (a : Bool) → leb 17 k ≡ a → (b : Bool) → in_range c ≡ b
-        → writing.Wrote n
-        ≡ cond a (cond b (writing.Wrote (length (file_of c))) (writing.Refused SettingOutOfRange)) (writing.Refused ShortPart)
+        → Ok n
+        ≡ cond a (cond b (Ok (length (file_of c))) (Err SettingOutOfRange)) (Err ShortPart)
         → (17 ≤ k) × (in_range c ≡ true) × (n ≡ length (file_of c))
     go true p true q h = (leb-true 17 k p, q, cc)
-    go true p false q h = absurd (let z : ◌≡◌ {A = ℕ} 0 1 = cc in omega arith)
-    go false p b q h = absurd (let z : ◌≡◌ {A = ℕ} 0 1 = cc in omega arith)
+    go true p false q h = cc
+    go false p b q h = cc
 
 -- a file has at most 17 bytes
 pub file_short : (c : Settings) → length (file_of c) ≤ 17
@@ -364,7 +324,7 @@ file_short c = go (fits_first c)
 stored_front : (f l : List ℕ) → length f ≤ length l → take (length f) (sets l 0 f) ≡ f
 stored_front f l h = rw (sets-eq f l 0 (omega arith)) (take-append_seam f (drop (0 + length f) l))
 
-wrote : (c : Settings) (before after : List ℕ) (n : ℕ) → Writes c before (writing.Wrote n) after → Wrote c before after n
+wrote : (c : Settings) (before after : List ℕ) (n : ℕ) → Writes c before (Ok n) after → Wrote c before after n
 wrote c before after n w =
     let d = decides c n (length before) w.answer in
     record {
@@ -374,17 +334,17 @@ wrote c before after n w =
     }
 
 -- what `write` counts is at most 17 bytes
-pub wrote_short : (c : Settings) (before after : List ℕ) (n : ℕ) → Writes c before (writing.Wrote n) after → n ≤ 17
+pub wrote_short : (c : Settings) (before after : List ℕ) (n : ℕ) → Writes c before (Ok n) after → n ≤ 17
 wrote_short c before after n w = omega (arith, (decides c n (length before) w.answer).2, file_short c)
 
 -- the part that `write` leaves begins with a file that is read as these settings
-pub write_then_read : (c : Settings) (before after : List ℕ) (n : ℕ) → SettingsFit c → Writes c before (writing.Wrote n) after
-    → read_from (take n after) ≡ reading.Settings c
+pub write_then_read : (c : Settings) (before after : List ℕ) (n : ℕ) → SettingsFit c → Writes c before (Ok n) after
+    → read_from (take n after) ≡ Ok c
 write_then_read c before after n fit w =
     let h = wrote c before after n w in
     rw h.file (read_written c fit h.range)
 
 -- a file that is accepted is the one that `write` leaves for its settings
-pub read_then_write : (f : List ℕ) (c : Settings) (before after : List ℕ) (n : ℕ) → AllBytes f → read_from f ≡ reading.Settings c
-    → Writes c before (writing.Wrote n) after → take n after ≡ f
+pub read_then_write : (f : List ℕ) (c : Settings) (before after : List ℕ) (n : ℕ) → AllBytes f → read_from f ≡ Ok c
+    → Writes c before (Ok n) after → take n after ≡ f
 read_then_write f c before after n b e w = (wrote c before after n w).file ∙ sym (written_read f c b e)

@@ -1,6 +1,7 @@
 -- A settings file: what is written, and what a file is read as. Definitions.
 -- Assumes nothing.
-use Rattle.std.specs.Prelude.{◌≡◌, Bool, true, cond, ◌&&◌, List, [], ◌∷◌, ◌++◌, ℕ, zero, suc, leb, eqb, length, get_or}
+use Rattle.std.specs.List.{starts_with}
+use Rattle.std.specs.Prelude.{nat_eq, Result, Ok, Err, ◌≡◌, Bool, cond, ◌&&◌, List, [], ◌∷◌, ◌++◌, ℕ, leb, eqb, length}
 use Rattle.std.proofs.lemmas.List.Edits.{sets}
 use Rattle.protocol.specs.Ranges.{in_range}
 use Rattle.protocol.specs.Refusals as link
@@ -15,10 +16,6 @@ use Rattle.settings_file.specs.declared.FileRefusal.TheVariants.{
   UnknownVersion,
   NeedlessVersion,
 }
-use Rattle.settings_file.specs.declared.Reading.{Reading}
-use Rattle.settings_file.specs.declared.Reading.TheVariants as reading
-use Rattle.settings_file.specs.declared.Writing.{Writing}
-use Rattle.settings_file.specs.declared.Writing.TheVariants as writing
 
 -- the numbers of the refusals: 7 and 12 are the link's
 abbrev pub number_of : FileRefusal → ℕ
@@ -73,31 +70,26 @@ abbrev pub file_of : Settings → List ℕ
 file_of c = cond (fits_first c) (first_of c) (second_of c)
 
 -- writing into a part this long: 7 for one under 17 bytes, then 12; else how many bytes the file has
-unfoldable pub write_into : Settings → ℕ → Writing
+unfoldable pub write_into : Settings → ℕ → Result ℕ FileRefusal
 write_into c n =
     cond (leb second_size n)
-    (cond (in_range c) (writing.Wrote (length (file_of c))) (writing.Refused SettingOutOfRange))
-    (writing.Refused ShortPart)
+    (cond (in_range c) (Ok (length (file_of c))) (Err SettingOutOfRange))
+    (Err ShortPart)
 
 -- the part afterwards: the file at its start, which is as it was beyond it; refused, it is as it was
-abbrev pub Leaves : Settings → Writing → List ℕ → List ℕ → Type 0
-Leaves c (writing.Wrote n) before after = after ≡ sets before 0 (file_of c)
-Leaves c (writing.Refused r) before after = after ≡ before
+abbrev pub Leaves : Settings → Result ℕ FileRefusal → List ℕ → List ℕ → Type 0
+Leaves c (Ok n) before after = after ≡ sets before 0 (file_of c)
+Leaves c (Err r) before after = after ≡ before
 
-pub record Writes (c : Settings) (before : List ℕ) (a : Writing) (after : List ℕ) : Type 0 where
+pub record Writes (c : Settings) (before : List ℕ) (a : Result ℕ FileRefusal) (after : List ℕ) : Type 0 where
   pub answer : a ≡ write_into c (length before)
   pub leaves : Leaves c a before after
 
 -- ---- reading
 
--- whether the first n bytes are the same
-unfoldable pub same_first : ℕ → List ℕ → List ℕ → Bool
-same_first zero a b = true
-same_first (suc n) a b = same_first n a b && eqb (get_or a n 0) (get_or b n 0)
-
 -- whether a file begins with the magic
 unfoldable pub has_magic : List ℕ → Bool
-has_magic f = same_first 3 f magic
+has_magic f = starts_with nat_eq f magic
 
 -- the settings of its bytes, in range or not, with this for stream and for congestion
 unfoldable pub settings_at : List ℕ → ℕ → ℕ → Settings
@@ -113,28 +105,28 @@ settings_at f stream congestion =
     }
 
 -- version 1: stream and congestion are off; settings in range that fit it, or 12
-abbrev pub first_ranged : Settings → Reading
-first_ranged c = cond (in_range c && fits_first c) (reading.Settings c) (reading.Refused SettingOutOfRange)
+abbrev pub first_ranged : Settings → Result Settings FileRefusal
+first_ranged c = cond (in_range c && fits_first c) (Ok c) (Err SettingOutOfRange)
 
-abbrev pub read_first : List ℕ → Reading
-read_first f = cond (eqb (length f) first_size) (first_ranged (settings_at f 0 0)) (reading.Refused NotSettings)
+abbrev pub read_first : List ℕ → Result Settings FileRefusal
+read_first f = cond (eqb (length f) first_size) (first_ranged (settings_at f 0 0)) (Err NotSettings)
 
 -- version 2: stream, then congestion, at its end; 12 for settings out of range, then 20 for those that fit version 1
-abbrev pub second_ranged : Settings → Reading
+abbrev pub second_ranged : Settings → Result Settings FileRefusal
 second_ranged c =
     cond (in_range c)
-    (cond (fits_first c) (reading.Refused NeedlessVersion) (reading.Settings c))
-    (reading.Refused SettingOutOfRange)
+    (cond (fits_first c) (Err NeedlessVersion) (Ok c))
+    (Err SettingOutOfRange)
 
-abbrev pub read_second : List ℕ → Reading
+abbrev pub read_second : List ℕ → Result Settings FileRefusal
 read_second f =
     cond (eqb (length f) second_size)
     (second_ranged (settings_at f (number_at 1 f 15) (number_at 1 f 16)))
-    (reading.Refused NotSettings)
+    (Err NotSettings)
 
 -- 15 for under 5 bytes or a wrong magic, 16 for an unknown version, then by the version: 15 for a wrong length, then 12, then 20
-unfoldable pub read_from : List ℕ → Reading
+unfoldable pub read_from : List ℕ → Result Settings FileRefusal
 read_from f =
     cond (leb 5 (length f) && has_magic f)
-    (cond (eqb (number_at 2 f 3) 1) (read_first f) (cond (eqb (number_at 2 f 3) 2) (read_second f) (reading.Refused UnknownVersion)))
-    (reading.Refused NotSettings)
+    (cond (eqb (number_at 2 f 3) 1) (read_first f) (cond (eqb (number_at 2 f 3) 2) (read_second f) (Err UnknownVersion)))
+    (Err NotSettings)

@@ -5,24 +5,8 @@
 
 ghost use Rattle.std.specs.Prelude.{◌≡◌, ◌≤◌, length};
 ghost use Rattle.std.proofs.lemmas.List.Edits.{sets};
-ghost use Rattle.settings_file.specs.Files.{
-  first_size,
-  second_size,
-  fits_first,
-  number_of,
-  front,
-  back,
-  added,
-  file_of,
-  has_magic,
-  settings_at,
-  first_ranged,
-  second_ranged,
-  read_first,
-  read_second,
-  read_from,
-  Writes,
-};
+ghost use Rattle.settings_file.specs.Files.{first_size, second_size, fits_first, number_of, front, back, added, file_of, has_magic};
+ghost use Rattle.settings_file.specs.Files.{settings_at, read_first, read_second, read_from, Writes};
 
 use protocol::Settings;
 use wire::number::Number;
@@ -46,27 +30,13 @@ const SECOND_SIZE: usize = 17;
 const FIRST_MTU_MOST: u16 = 512;
 
 // Why a file is not read, or not written.
-#[derive(Clone, Copy)]
+#[derive(Clone, Copy, Debug, PartialEq, Eq)]
 pub enum FileRefusal {
     ShortPart,
     SettingOutOfRange,
     NotSettings,
     UnknownVersion,
     NeedlessVersion,
-}
-
-// What a file is read as.
-#[derive(Clone, Copy)]
-pub enum Reading {
-    Settings(Settings),
-    Refused(FileRefusal),
-}
-
-// How many bytes of a file were written.
-#[derive(Clone, Copy)]
-pub enum Writing {
-    Wrote(usize),
-    Refused(FileRefusal),
 }
 
 impl FileRefusal {
@@ -92,16 +62,17 @@ fn fits_first(settings: Settings) -> bool
 }
 
 // The magic and the version.
+#[tactic(auto, using(crate::specs::FileLaws::front_stored))]
 fn put_front(out: &mut [u8], version: u16)
     requires { first_size ≤ length out.old }
     ensures { out.new ≡ sets out.old 0 (front version) }
 {
-    let magic = MAGIC;
-    pools::copy_part(&magic, 0, 3, out, 0);
+    pools::copy_part(&MAGIC, 0, 3, out, 0);
     version.put(out, 3);
 }
 
 // The settings of both versions, behind magic and version.
+#[tactic(auto, using(crate::specs::FileLaws::back_stored))]
 fn put_back(out: &mut [u8], settings: Settings)
     requires { first_size ≤ length out.old }
     ensures { out.new ≡ sets out.old 5 (back settings) }
@@ -114,6 +85,7 @@ fn put_back(out: &mut [u8], settings: Settings)
 }
 
 // What version 2 adds.
+#[tactic(auto, using(crate::specs::FileLaws::added_stored))]
 fn put_added(out: &mut [u8], settings: Settings)
     requires { second_size ≤ length out.old }
     ensures { out.new ≡ sets out.old 15 (added settings) }
@@ -139,36 +111,29 @@ fn put_file(out: &mut [u8], settings: Settings) -> usize
 }
 
 // Writes the file of these settings at the start of a part: 7 where the part is under 17 bytes, then 12. No other byte changes.
-pub fn write(settings: Settings, out: &mut [u8]) -> Writing
+#[tactic(auto, using(crate::specs::FileLaws::no_room, crate::specs::FileLaws::out_of_range, crate::specs::FileLaws::written))]
+pub fn write(settings: Settings, out: &mut [u8]) -> Result<usize, FileRefusal>
     ensures { Writes settings out.old result out.new }
 {
     if out.len() < SECOND_SIZE {
-        return Writing::Refused(FileRefusal::ShortPart);
+        return Err(FileRefusal::ShortPart);
     }
-    if settings.in_range() {
-        let n = put_file(out, settings);
-        return Writing::Wrote(n);
+    if !settings.in_range() {
+        return Err(FileRefusal::SettingOutOfRange);
     }
-    Writing::Refused(FileRefusal::SettingOutOfRange)
+    Ok(put_file(out, settings))
 }
 
 // Whether a file begins with the magic.
+#[tactic(auto, unfolding(crate::specs::Files::has_magic))]
 fn has_magic(file: &[u8]) -> bool
-    requires { 3 ≤ length file.now }
     ensures { result ≡ has_magic file.now }
 {
-    let magic = MAGIC;
-    let mut i: usize = 0;
-    while i < 3 {
-        if file[i] != magic[i] {
-            return false;
-        }
-        i += 1;
-    }
-    true
+    file.starts_with(&MAGIC)
 }
 
 // The settings of a file's bytes, in range or not, with this for stream and for congestion.
+#[tactic(auto, unfolding(crate::specs::Files::settings_at))]
 fn settings_at(file: &[u8], stream: u8, congestion: u8) -> Settings
     requires { first_size ≤ length file.now }
     ensures { result ≡ settings_at file.now stream congestion }
@@ -184,68 +149,48 @@ fn settings_at(file: &[u8], stream: u8, congestion: u8) -> Settings
     }
 }
 
-// The settings of a file of version 1, or 12.
-fn first_ranged(settings: Settings) -> Reading
-    ensures { result ≡ first_ranged settings }
-{
-    if settings.in_range() & fits_first(settings) {
-        Reading::Settings(settings)
-    } else {
-        Reading::Refused(FileRefusal::SettingOutOfRange)
-    }
-}
-
-// The settings of a file of version 2, or 12, then 20.
-fn second_ranged(settings: Settings) -> Reading
-    ensures { result ≡ second_ranged settings }
-{
-    if settings.in_range() {
-        if fits_first(settings) {
-            return Reading::Refused(FileRefusal::NeedlessVersion);
-        }
-        return Reading::Settings(settings);
-    }
-    Reading::Refused(FileRefusal::SettingOutOfRange)
-}
-
-// A file of version 1: 15 for a wrong length, then 12.
-fn read_first(file: &[u8]) -> Reading
+// A file of version 1: 15 for a wrong length, then 12. The versions differ in more than a size, so each has a reader of its own.
+fn read_first(file: &[u8]) -> Result<Settings, FileRefusal>
     ensures { result ≡ read_first file.now }
 {
     if file.len() != FIRST_SIZE {
-        return Reading::Refused(FileRefusal::NotSettings);
+        return Err(FileRefusal::NotSettings);
     }
-    first_ranged(settings_at(file, 0, 0))
+    let settings = settings_at(file, 0, 0);
+    if settings.in_range() && fits_first(settings) {
+        Ok(settings)
+    } else {
+        Err(FileRefusal::SettingOutOfRange)
+    }
 }
 
 // A file of version 2: 15 for a wrong length, then 12, then 20.
-fn read_second(file: &[u8]) -> Reading
+fn read_second(file: &[u8]) -> Result<Settings, FileRefusal>
     ensures { result ≡ read_second file.now }
 {
     if file.len() != SECOND_SIZE {
-        return Reading::Refused(FileRefusal::NotSettings);
+        return Err(FileRefusal::NotSettings);
     }
-    let stream = u8::read(file, 15);
-    let congestion = u8::read(file, 16);
-    second_ranged(settings_at(file, stream, congestion))
+    let settings = settings_at(file, u8::read(file, 15), u8::read(file, 16));
+    if !settings.in_range() {
+        return Err(FileRefusal::SettingOutOfRange);
+    }
+    if fits_first(settings) {
+        return Err(FileRefusal::NeedlessVersion);
+    }
+    Ok(settings)
 }
 
 // Reads a file: 15 for under 5 bytes or a wrong magic, 16 for an unknown version, then as the version says.
-pub fn read(file: &[u8]) -> Reading
+pub fn read(file: &[u8]) -> Result<Settings, FileRefusal>
     ensures { result ≡ read_from file.now }
 {
-    if file.len() < FRONT {
-        return Reading::Refused(FileRefusal::NotSettings);
+    if file.len() < FRONT || !has_magic(file) {
+        return Err(FileRefusal::NotSettings);
     }
-    if has_magic(file) {
-        let version = u16::read(file, 3);
-        if version == FIRST {
-            return read_first(file);
-        }
-        if version == SECOND {
-            return read_second(file);
-        }
-        return Reading::Refused(FileRefusal::UnknownVersion);
+    match u16::read(file, 3) {
+        FIRST => read_first(file),
+        SECOND => read_second(file),
+        _ => Err(FileRefusal::UnknownVersion),
     }
-    Reading::Refused(FileRefusal::NotSettings)
 }

@@ -2,9 +2,9 @@
 -- Assumes nothing.
 use Rattle.std.specs.Prelude.{Bool, true, false, cond, not, ◌&&◌, ◌||◌, List, [], ◌∷◌, ◌++◌, map, ℕ, zero, suc, ◌+◌, ltb, eqb}
 use Rattle.lists.specs.declared.Held.{Held}
-use Rattle.lists.specs.declared.HeldList.{HeldList}
-use Rattle.lists.specs.declared.WaitingList.{WaitingList}
-use Rattle.lists.specs.declared.OutstandingList.{OutstandingList}
+use Rattle.lists.specs.declared.Listed.{Listed}
+use Rattle.lists.specs.declared.Waiting.{Waiting}
+use Rattle.lists.specs.declared.Outstanding.{Outstanding}
 use Rattle.lists.specs.Views.{held_of, waiting_of, outstanding_of, waiting_part, outstanding_part}
 
 -- the slots that segments are held in
@@ -12,11 +12,11 @@ abbrev pub slots_of : List Held → List ℕ
 slots_of = map (λ h. h.slot)
 
 -- the receive slots used: those of what is ready and of what waits
-abbrev pub receive_used : HeldList → WaitingList → List ℕ
+abbrev pub receive_used : Listed Held 128 → Listed Waiting 128 → List ℕ
 receive_used ready waiting = slots_of (held_of ready ++ map waiting_part (waiting_of waiting))
 
 -- the send slots used: those of what is sent and not acknowledged, and of what is queued
-abbrev pub send_used : HeldList → OutstandingList → List ℕ
+abbrev pub send_used : Listed Held 128 → Listed Outstanding 32 → List ℕ
 send_used queued sent = slots_of (map outstanding_part (outstanding_of sent) ++ held_of queued)
 
 -- is the slot used?

@@ -9,9 +9,8 @@ use Rattle.delivery.specs.Hearing.{FewPushes, FedWith}
 use Rattle.demands.specs.Steps.{Endpoint, SinceOpening}
 use Rattle.tag_message.specs.Messages.{name_in}
 use Rattle.tag_survey.specs.Tables.{entries_in, entry_at}
-use Rattle.tag_table.specs.Changes.{TakesTag}
+use Rattle.tag_table.specs.Changes.{Changed, TakesTag}
 use Rattle.tag_table.specs.OtherNames.{Other, take_preserves}
-use Rattle.tag_table.specs.declared.Changing.{Changing}
 use Rattle.tag_delivery.specs.TagDelivery.{Takes, all_preserve, Genuine, read_given}
 
 module _
@@ -21,7 +20,7 @@ module _
   where
     -- one message that it has read, taken into a table
     pub taken_from_link :
-        (m before : List ℕ) (a : Changing) (after : List ℕ) → Memᴰ m (messages_read (read_answers answers)) → TakesTag m before a after →
+        (m before : List ℕ) (a : Changed) (after : List ℕ) → Memᴰ m (messages_read (read_answers answers)) → TakesTag m before a after →
         Genuine (accepted_for c events) m before after
     taken_from_link m before a after k p = record {
       given = read_given c calls heard events answers sender receiver sends hears few fed m k;

@@ -31,9 +31,8 @@ use Rattle.demands.specs.Steps.{Endpoint, SinceOpening}
 use Rattle.demands.proofs.Demand3.{demand_3}
 use Rattle.tag_message.specs.Messages.{name_in}
 use Rattle.tag_survey.specs.Tables.{entries_in, entry_at}
-use Rattle.tag_table.specs.Changes.{TakesTag}
+use Rattle.tag_table.specs.Changes.{Changed, TakesTag}
 use Rattle.tag_table.specs.OtherNames.{Other, PreservesOthers, take_preserves}
-use Rattle.tag_table.specs.declared.Changing.{Changing}
 
 -- a receiver hears what it hears itself
 hears_itself : (calls : List Call) → HearsMore calls calls
@@ -48,7 +47,7 @@ hears_itself (Call.check t ∷ xs) = first_checks (second_checks (hears_itself x
 -- messages taken into a table, one after the other, refused ones included
 pub data Takes : List (List ℕ) → List ℕ → List ℕ → Type 0 where
   none : {t : List ℕ} → Takes [] t t
-  next : {m before between after : List ℕ} {ms : List (List ℕ)} (a : Changing) → TakesTag m before a between → Takes ms between after
+  next : {m before between after : List ℕ} {ms : List (List ℕ)} (a : Changed) → TakesTag m before a between → Takes ms between after
       → Takes (m ∷ ms) before after
 
 -- an entry whose name no message has is, byte for byte, as it was

@@ -1,8 +1,10 @@
 -- An entry of a table of tags: its rules, its name and its value. Definitions.
 -- Assumes nothing.
-use Rattle.std.specs.Prelude.{Bool, true, false, cond, ◌&&◌, List, [], ◌∷◌, ◌++◌, ℕ, ◌+◌, ◌-◌, leb, eqb, length, get_or, replicate}
+use Rattle.std.specs.Prelude.{Bool, cond, ◌&&◌, List, ◌++◌, ℕ, ◌+◌, ◌-◌, leb, eqb, length, get_or, replicate}
 use Rattle.pools.specs.Parts.{part}
-use Rattle.tag_message.specs.Tags.{every, is_name}
+use Rattle.std.specs.List.{list_all}
+use Rattle.std.specs.Str.{bytes_eq}
+use Rattle.tag_message.specs.Tags.{is_name}
 use Rattle.tag_message.specs.Messages.{counted}
 
 -- bytes of an entry
@@ -43,23 +45,17 @@ is_free e = eqb (name_length e) 0
 unfoldable pub is_used : List ℕ → Bool
 is_used e =
     leb (name_length e) 32 && leb (value_length e) 64
-    && (is_name (name_of e) && every is_zero (behind_name e) && every is_zero (behind_value e))
+    && (is_name (name_of e) && list_all is_zero (behind_name e) && list_all is_zero (behind_value e))
 
 -- a free entry is all zero
 unfoldable pub is_entry : List ℕ → Bool
-is_entry e = cond (is_free e) (every is_zero e) (is_used e)
+is_entry e = cond (is_free e) (list_all is_zero e) (is_used e)
 
 -- ---- names
 
-unfoldable pub same_bytes : List ℕ → List ℕ → Bool
-same_bytes [] [] = true
-same_bytes [] (y ∷ ys) = false
-same_bytes (x ∷ xs) [] = false
-same_bytes (x ∷ xs) (y ∷ ys) = eqb x y && same_bytes xs ys
-
 -- whether an entry has this name
 unfoldable pub is_named : List ℕ → List ℕ → Bool
-is_named name e = same_bytes name (name_of e)
+is_named name e = bytes_eq name (name_of e)
 
 -- ---- what is stored
 

@@ -2,36 +2,36 @@
 // 7, 24, 17; asking shows an empty part where it is refused.
 #![tactic(auto)]
 
-ghost use Rattle.std.specs.Prelude.{◌≡◌, ◌<◌, length};
+ghost use Rattle.std.specs.Prelude.{◌≡◌, ◌+◌, ◌≤◌, ◌<◌, length, IfSome};
 ghost use Rattle.tag_survey.specs.Tables.{table_size, entries_in};
-ghost use Rattle.tag_find.specs.Findings.{value_at, first_of, find_in, found_by, Shows, ShowsOwn, ShowsDefaults};
+ghost use Rattle.tag_find.specs.Findings.{value_at, first_of, find_in, found_by, PartOf, Shows, ShowsOwn, ShowsDefaults};
 
 use tag_entry::{ENTRY, VALUE, VALUE_LENGTH};
 use tag_message::{TagRefusal, is_name};
-use tag_survey::{ENTRIES, SIZE, Surveyed, survey};
+use tag_survey::{SIZE, survey};
 
 // A part of a table, by numbers.
-#[derive(Clone, Copy)]
+#[derive(Clone, Copy, Debug, PartialEq, Eq)]
 pub struct Part {
     pub start: usize,
     pub len: usize,
 }
 
-// Where the value of a name is: in the station's own table, in the line's defaults, or in neither.
-#[derive(Clone, Copy)]
-pub enum Finding {
+// Where a value is: in the station's own table, or in the line's defaults.
+#[derive(Clone, Copy, Debug, PartialEq, Eq)]
+pub enum Place {
     Own(Part),
     Defaults(Part),
-    Missing,
-    Refused(TagRefusal),
 }
 
-// Whether a name was found.
-#[derive(Clone, Copy)]
-pub enum Presence {
-    Found,
-    Missing,
-    Refused(TagRefusal),
+impl Part {
+    // This very part of a table.
+    fn of(self, table: &[u8]) -> &[u8]
+        requires { self.start + self.len ≤ length table.now }
+        ensures { PartOf table.entry self result }
+    {
+        &table[self.start..self.start + self.len]
+    }
 }
 
 // The value of entry i.
@@ -42,58 +42,44 @@ fn value_at(table: &[u8], i: usize) -> Part
     let at = ENTRY * i;
     Part {
         start: at + VALUE,
-        len: table[at + VALUE_LENGTH] as usize,
+        len: usize::from(table[at + VALUE_LENGTH]),
+    }
+}
+
+// The value of entry i of the own table, else of entry j of the defaults.
+#[tactic(auto, unfolding(crate::specs::Findings::first_of))]
+fn first_of(own: &[u8], defaults: &[u8], i: Option<usize>, j: Option<usize>) -> Option<Place>
+    requires own { (length own.now ≡ table_size) × IfSome i (λ k. k < 64) }
+    requires defaults { (length defaults.now ≡ table_size) × IfSome j (λ k. k < 64) }
+    ensures { result ≡ first_of (entries_in own.now) (entries_in defaults.now) i j }
+{
+    match (i, j) {
+        (Some(i), _) => Some(Place::Own(value_at(own, i))),
+        (None, Some(j)) => Some(Place::Defaults(value_at(defaults, j))),
+        (None, None) => None,
     }
 }
 
 // Where the value of a name is: in the station's own table, else in the line's defaults. Refuses 7, 24, 17.
-pub fn find(own: &[u8], defaults: &[u8], name: &[u8]) -> Finding
+pub fn find(own: &[u8], defaults: &[u8], name: &[u8]) -> Result<Option<Place>, TagRefusal>
     ensures { result ≡ find_in own.now defaults.now name.now }
 {
-    if own.len() != SIZE {
-        return Finding::Refused(TagRefusal::OtherSize);
+    if own.len() != SIZE || defaults.len() != SIZE {
+        return Err(TagRefusal::OtherSize);
     }
-    if defaults.len() != SIZE {
-        return Finding::Refused(TagRefusal::OtherSize);
+    let here = survey(own, name)?;
+    let behind = survey(defaults, name)?;
+    if !is_name(name) {
+        return Err(TagRefusal::NotATag);
     }
-    let Surveyed::Of(here) = survey(own, name) else {
-        return Finding::Refused(TagRefusal::NotATable);
-    };
-    let Surveyed::Of(behind) = survey(defaults, name) else {
-        return Finding::Refused(TagRefusal::NotATable);
-    };
-    if is_name(name) {
-        let i = here.named;
-        let j = behind.named;
-        return first_of(own, defaults, i, j);
-    }
-    Finding::Refused(TagRefusal::NotATag)
-}
-
-// The value of entry i of the own table, else of entry j of the defaults.
-fn first_of(own: &[u8], defaults: &[u8], i: usize, j: usize) -> Finding
-    requires { (length own.now ≡ table_size) × (length defaults.now ≡ table_size) }
-    ensures { result ≡ first_of (entries_in own.now) (entries_in defaults.now) i j }
-{
-    if i < ENTRIES {
-        return Finding::Own(value_at(own, i));
-    }
-    if j < ENTRIES {
-        return Finding::Defaults(value_at(defaults, j));
-    }
-    Finding::Missing
+    Ok(first_of(own, defaults, here.named, behind.named))
 }
 
 // Whether a name is in the station's own table or in the line's defaults. Refuses 7, 24, 17.
-pub fn found(own: &[u8], defaults: &[u8], name: &[u8]) -> Presence
+pub fn found(own: &[u8], defaults: &[u8], name: &[u8]) -> Result<bool, TagRefusal>
     ensures { result ≡ found_by (find_in own.now defaults.now name.now) }
 {
-    match find(own, defaults, name) {
-        Finding::Own(_) => Presence::Found,
-        Finding::Defaults(_) => Presence::Found,
-        Finding::Missing => Presence::Missing,
-        Finding::Refused(refusal) => Presence::Refused(refusal),
-    }
+    find(own, defaults, name).map(|place| place.is_some())
 }
 
 // The value bytes of a name, without a copy: the very part of the station's own table, else of the line's defaults; an empty
@@ -102,18 +88,9 @@ pub fn ask<'a>(own: &'a [u8], defaults: &'a [u8], name: &[u8]) -> &'a [u8]
     ensures { Shows (find_in own.now defaults.now name.now) own.entry defaults.entry result }
 {
     match find(own, defaults, name) {
-        Finding::Own(part) => {
-            let start = part.start;
-            let end = start + part.len;
-            &own[start..end]
-        }
-        Finding::Defaults(part) => {
-            let start = part.start;
-            let end = start + part.len;
-            &defaults[start..end]
-        }
-        Finding::Missing => &own[0..0],
-        Finding::Refused(_) => &own[0..0],
+        Ok(Some(Place::Own(part))) => part.of(own),
+        Ok(Some(Place::Defaults(part))) => part.of(defaults),
+        Ok(None) | Err(_) => &own[..0],
     }
 }
 
@@ -122,14 +99,8 @@ pub fn ask_own<'a>(own: &'a [u8], defaults: &[u8], name: &[u8]) -> &'a [u8]
     ensures { ShowsOwn (find_in own.now defaults.now name.now) own.entry result }
 {
     match find(own, defaults, name) {
-        Finding::Own(part) => {
-            let start = part.start;
-            let end = start + part.len;
-            &own[start..end]
-        }
-        Finding::Defaults(_) => &own[0..0],
-        Finding::Missing => &own[0..0],
-        Finding::Refused(_) => &own[0..0],
+        Ok(Some(Place::Own(part))) => part.of(own),
+        _ => &own[..0],
     }
 }
 
@@ -138,13 +109,7 @@ pub fn ask_defaults<'a>(own: &[u8], defaults: &'a [u8], name: &[u8]) -> &'a [u8]
     ensures { ShowsDefaults (find_in own.now defaults.now name.now) defaults.entry result }
 {
     match find(own, defaults, name) {
-        Finding::Defaults(part) => {
-            let start = part.start;
-            let end = start + part.len;
-            &defaults[start..end]
-        }
-        Finding::Own(_) => &defaults[0..0],
-        Finding::Missing => &defaults[0..0],
-        Finding::Refused(_) => &defaults[0..0],
+        Ok(Some(Place::Defaults(part))) => part.of(defaults),
+        _ => &defaults[..0],
     }
 }

@@ -1,4 +1,3 @@
 pub mod Tags
-pub mod TagLaws
 pub mod Messages
 pub mod MessageLaws

@@ -1,23 +1,25 @@
 -- Laws of `Messages`: the two round trips.
 -- Assumes nothing.
-use Rattle.std.specs.Prelude.{◌≡◌, Bool, true, false, cond, ◌&&◌, ℕ, ◌+◌, ◌-◌, ◌≤◌, ◌<◌}
+use Rattle.std.specs.Prelude.{◌≡◌, Ok, Err, Bool, true, false, cond, ◌&&◌, ℕ, ◌+◌, ◌-◌, ◌≤◌, ◌<◌}
 use Rattle.std.proofs.Math.Path.{refl, sym, ap}
 use Rattle.std.proofs.Common.{◌∙◌, add-one, take-append-drop, drop_at}
 use mathlib.Core.List.{List, [], ◌∷◌, ◌++◌}
 use native.Mathlib.Omega.{arith}
 use borrow.Author.Tests.{le-leb, lt-leb, leb-true, eq-eqb, ne_eqb, eqb-true}
 use Rattle.std.proofs.Math.Dec.{leb, eqb}
-use Rattle.std.proofs.Math.ListN.{length, length-append, length-drop, take, drop}
+use Rattle.std.proofs.Math.ListN.{length, length-append, length-drop, take, drop, get_or}
 use Rattle.std.proofs.lemmas.List.Edits.{sets}
 use Rattle.std.proofs.Math.Seq.{take_all, take-length, drop-cons, drop-drop, length-take-le, append_snoc, get_or_at, take_at}
 use Rattle.wire.specs.Stores.{sets_append}
 use Rattle.tag_message.specs.Tags.{is_name, is_value, is_tag}
-use Rattle.tag_message.specs.TagLaws.{and_parts, and-false}
+use Rattle.std.proofs.lemmas.Bool.{and_parts}
+use Rattle.std.proofs.Math.Bool.{and-false}
 use Rattle.tag_message.specs.Messages.{
   counted,
   message_of,
   write_into,
   Writes,
+  lengths_of,
   name_length,
   value_length,
   name_in,
@@ -27,8 +29,7 @@ use Rattle.tag_message.specs.Messages.{
 }
 use Rattle.tag_message.specs.declared.TagRefusal.{TagRefusal}
 use Rattle.tag_message.specs.declared.TagRefusal.TheVariants.{OtherSize, NotATag}
-use Rattle.tag_message.specs.declared.Reading.TheVariants as reading
-use Rattle.tag_message.specs.declared.Writing.TheVariants as writing
+use Rattle.tag_message.specs.declared.Lengths.{Lengths}
 
 -- ---- names and values
 
@@ -68,11 +69,11 @@ message_stored name value l p q =
 ruleset tests = (eq-eqb, ne_eqb, le-leb, lt-leb)
 
 module _ (name value l : List ℕ) where
-  pub no_room : length l < 98 → Writes name value l (writing.Refused OtherSize) l
+  pub no_room : length l < 98 → Writes name value l (Err OtherSize) l
   unfolding write_into
   no_room a = record { answer = simp tests; leaves = refl }
 
-  pub no_tag : 98 ≤ length l → is_tag name value ≡ false → Writes name value l (writing.Refused NotATag) l
+  pub no_tag : 98 ≤ length l → is_tag name value ≡ false → Writes name value l (Err NotATag) l
   unfolding write_into
   no_tag a b = record { answer = simp (b, tests); leaves = refl }
 
@@ -81,36 +82,39 @@ module _ (name value l : List ℕ) where
       98 ≤ length l →
       is_tag name value ≡ true →
       m ≡ sets l 0 (message_of name value) →
-      Writes name value l (writing.Written (1 + length name + 1 + length value)) m
+      Writes name value l (Ok (1 + length name + 1 + length value)) m
   unfolding write_into
   written a b e = record { answer = simp (b, tests, length_message name value); leaves = e }
 
 module _ (m : List ℕ) where
-  -- it ends before its value's length
-  pub short_message : length m ≤ 1 + name_length m → reading.Refused NotATag ≡ read_from m
-  unfolding read_from is_message
-  short_message h = rw (ne_eqb (length m) (1 + name_length m + 1 + value_length m) (λ e. omega (arith, e)), and-false)
+  -- where a length, or the name, is not of its form
+  pub no_message :
+      (n v : ℕ) → n ≡ name_length m → v ≡ get_or m (1 + n) 0 →
+      (length m ≡ 1 + n + 1 + v → v ≤ 64 → is_name (take (1 + n - 1) (drop 1 m)) ≡ false) →
+      Err NotATag ≡ read_from m
+  unfolding read_from is_message name_in
+  no_message n v p q h = rw (← p, ← q) (go (leb v 64) refl (eqb (length m) (1 + n + 1 + v)) refl)
+    where
+      t : Lengths
+      t = record { name = n; value = v }
 
-  -- the test of its parts, in the code's terms
-  pub tested :
-      {b t : Bool} →
-      b ≡ is_name (take (1 + name_length m - 1) (drop 1 m)) →
-      (b && leb (value_length m) 64 && eqb (length m) (1 + name_length m + 1 + value_length m)) ≡ t →
-      is_message m ≡ t
-  unfolding is_message name_in
-  tested p q =
-      let n : 1 + name_length m - 1 ≡ name_length m = omega arith in
-      ap (λ (x : Bool). x && leb (value_length m) 64 && eqb (length m) (1 + name_length m + 1 + value_length m))
-      (sym (p ∙ ap (λ (k : ℕ). is_name (take k (drop 1 m))) n))
-      ∙ q
+      i : 1 + n - 1 ≡ n
+      i = omega arith
 
-  pub no_message : is_message m ≡ false → reading.Refused NotATag ≡ read_from m
-  unfolding read_from
-  no_message e = rw e
+      go : (a : Bool) → leb v 64 ≡ a → (b : Bool) → eqb (length m) (1 + n + 1 + v) ≡ b
+          → Err NotATag ≡ cond (is_name (take n (drop 1 m)) && a && b) (Ok t) (Err NotATag)
+      go true e true f = rw (rw i at (h (eqb-true _ _ f) (leb-true _ _ e)))
+      go false e b f = rw and-false
+      go true e false f = rw and-false
 
-  pub message : is_message m ≡ true → reading.Tag (name_length m) (value_length m) ≡ read_from m
-  unfolding read_from
-  message e = rw e
+  pub message :
+      (n v : ℕ) → n ≡ name_length m → v ≡ get_or m (1 + n) 0 →
+      length m ≡ 1 + n + 1 + v → v ≤ 64 → is_name (take (1 + n - 1) (drop 1 m)) ≡ true →
+      Ok (record { name = n; value = v }) ≡ read_from m
+  unfolding read_from is_message name_in
+  message n v p q a b e =
+      let i : 1 + n - 1 ≡ n = omega arith in
+      rw (← p, ← q, ← i, e, le-leb v 64 b, i, eq-eqb (length m) (1 + n + 1 + v) a)
 
 -- ---- the round trips
 
@@ -139,7 +143,7 @@ module _ (name value : List ℕ) where
   value_in_lem = rw (value_length_lem, name_length_lem, behind) (take-length value)
 
   -- a tag that is written and read back is returned
-  pub read_written : is_tag name value ≡ true → read_from (message_of name value) ≡ reading.Tag (length name) (length value)
+  pub read_written : is_tag name value ≡ true → read_from (message_of name value) ≡ Ok (record { name = length name; value = length value })
   unfolding is_tag read_from is_message
   read_written e =
       let t = and_parts (is_name name) (is_value value) e in
@@ -199,20 +203,20 @@ pub record Read (m : List ℕ) (n v : ℕ) : Type 0 where
   pub named : n ≡ name_length m
   pub valued : v ≡ value_length m
 
-pub tag_read : (m : List ℕ) (n v : ℕ) → read_from m ≡ reading.Tag n v → Read m n v
+pub tag_read : (m : List ℕ) (t : Lengths) → read_from m ≡ Ok t → Read m t.name t.value
 unfolding read_from
-tag_read m n v e = go (is_message m) refl e
+tag_read m t e = go (is_message m) refl e
   where
-    go : (t : Bool) → is_message m ≡ t → cond t (reading.Tag (name_length m) (value_length m)) (reading.Refused NotATag) ≡ reading.Tag n v
-        → Read m n v
-    go true q r = record { message = q; named = cc; valued = cc }
-    go false q r = absurd (let z : ◌≡◌ {A = ℕ} 0 1 = cc in omega arith)
+    go : (b : Bool) → is_message m ≡ b → cond b (Ok (lengths_of m)) (Err NotATag) ≡ Ok t → Read m t.name t.value
+    go true q r =
+        let s : t ≡ lengths_of m = cc in
+        record { message = q; named = ap (λ (x : Lengths). x.name) s; valued = ap (λ (x : Lengths). x.value) s }
+    go false q r = cc
 
-pub none_read : (m : List ℕ) (q : TagRefusal) → read_from m ≡ reading.Refused q → is_message m ≡ false
+pub none_read : (m : List ℕ) (q : TagRefusal) → read_from m ≡ Err q → is_message m ≡ false
 unfolding read_from
 none_read m r e = go (is_message m) refl e
   where
-    go : (t : Bool) → is_message m ≡ t → cond t (reading.Tag (name_length m) (value_length m)) (reading.Refused NotATag) ≡ reading.Refused r
-        → t ≡ false
-    go true q h = absurd (let z : ◌≡◌ {A = ℕ} 0 1 = cc in omega arith)
+    go : (b : Bool) → is_message m ≡ b → cond b (Ok (lengths_of m)) (Err NotATag) ≡ Err r → b ≡ false
+    go true q h = cc
     go false q h = refl

@@ -1,6 +1,7 @@
 -- Names, values, and the numbers of the refusals. Definitions.
 -- Assumes nothing.
-use Rattle.std.specs.Prelude.{Bool, true, ◌&&◌, List, [], ◌∷◌, ℕ, leb, length}
+use Rattle.std.specs.Prelude.{Bool, ◌&&◌, List, ℕ, leb, length}
+use Rattle.std.specs.List.{list_all}
 use Rattle.protocol.specs.Refusals as link
 use Rattle.protocol.specs.declared.Refusal.TheVariants as linkRefusal
 use Rattle.tag_message.specs.declared.TagRefusal.{TagRefusal}
@@ -19,18 +20,13 @@ number_of Absent = 19
 -- a table with a length or byte outside of its rules, or a name twice
 number_of NotATable = 24
 
--- whether a test holds of each element
-unfoldable pub every : {A : Type 0} → (A → Bool) → List A → Bool
-every p [] = true
-every p (x ∷ xs) = p x && every p xs
-
 -- bytes 33 to 126
 abbrev pub is_printable : ℕ → Bool
 is_printable b = leb 33 b && leb b 126
 
 -- a name has 1 to 32 bytes, 33 to 126 each
 unfoldable pub is_name : List ℕ → Bool
-is_name l = leb 1 (length l) && leb (length l) 32 && every is_printable l
+is_name l = leb 1 (length l) && leb (length l) 32 && list_all is_printable l
 
 -- a value has up to 64 bytes, of any kind
 abbrev pub is_value : List ℕ → Bool

@@ -1,131 +1,100 @@
 // One pass over a table of tags: whether it is in its rules, where a name is, and which entry is the lowest free one.
 #![tactic(auto)]
 
-ghost use Rattle.std.specs.Prelude.{◌≡◌, true, ◌+◌, ◌≤◌, ◌<◌, length, take};
-ghost use Rattle.tag_message.specs.Tags.{every};
-ghost use Rattle.tag_entry.specs.Entries.{entry_size, name_length, is_entry, is_named};
-ghost use Rattle.tag_survey.specs.Tables.{table_size, entries_in, entry_at, some, is_fresh, first_place};
-ghost use Rattle.tag_survey.specs.Surveys.{Met, stepped, seen_after, survey_of, Tested};
+ghost use Rattle.std.specs.Prelude.{◌≡◌, List, [], ◌∷◌, ◌++◌, length, position};
+ghost use Rattle.std.specs.List.{list_any};
+ghost use Rattle.std.specs.Option.{option_or};
+ghost use Rattle.tag_entry.specs.Entries.{is_free, is_named};
+ghost use Rattle.tag_survey.specs.Tables.{table_size, entries_in, is_fresh, place_of};
+ghost use Rattle.tag_survey.specs.Surveys.{Met, surveyed};
 
-use tag_entry::{ENTRY, fingerprint, is_entry, is_named};
+use tag_entry::{Entry, fingerprint, is_entry, is_named, name_of};
+use tag_message::TagRefusal;
 
 // How many entries a table has, and its bytes.
 pub const ENTRIES: usize = 64;
 
 pub const SIZE: usize = 6272;
 
-// How many entries stand before the first with a name, and before the first free one; 64 where there is none.
-#[derive(Clone, Copy)]
+// The first entry with a name, and the lowest free one.
+#[derive(Clone, Copy, Debug, PartialEq, Eq)]
 pub struct Seen {
-    pub named: usize,
-    pub free: usize,
-}
-
-// What a pass over a table finds.
-#[derive(Clone, Copy)]
-pub enum Surveyed {
-    Of(Seen),
-    Broken,
-}
-
-// Whether one of the first i entries has this name.
-fn named_before(table: &[u8], i: usize, name: &[u8]) -> bool
-    requires { (length table.now ≡ table_size) × (i ≤ 64) × (every is_entry (take i (entries_in table.now)) ≡ true) }
-    ensures { result ≡ some (is_named name.now) (take i (entries_in table.now)) }
-{
-    let mut j: usize = 0;
-    while j < i {
-        let at = ENTRY * j;
-        if is_named(&table[at..at + ENTRY], name) {
-            return true;
-        }
-        j += 1;
-    }
-    false
-}
-
-// Whether no entry before entry i has its name. `met` has the fingerprints of the names before it; only where its own is
-// among them are the names compared. It is among them then.
-fn is_fresh(table: &[u8], i: usize, met: &mut [u8; 256]) -> bool
-    requires { Tested table.now i × Met met.old (take i (entries_in table.now)) }
-    ensures fresh { result ≡ is_fresh (take i (entries_in table.now)) (entry_at (entries_in table.now) i) }
-    ensures fingerprints { Met met.new (take (i + 1) (entries_in table.now)) }
-{
-    let at = ENTRY * i;
-    let e = &table[at..at + ENTRY];
-    let len = e[0] as usize;
-    if len == 0 {
-        return true;
-    }
-    let name = &e[1..1 + len];
-    let f = fingerprint(name);
-    let known = met[f];
-    met[f] = 1;
-    if known == 0 {
-        return true;
-    }
-    !named_before(table, i, name)
-}
-
-// The first place so far, or one more: i where it was not found before entry i and is there.
-fn passed(first: usize, i: usize, here: bool) -> usize
-    requires { i < 64 }
-    ensures { result ≡ stepped here i first }
-{
-    if first == i {
-        if here {
-            return i;
-        }
-        return i + 1;
-    }
-    first
+    pub named: Option<usize>,
+    pub free: Option<usize>,
 }
 
 impl Seen {
-    // With entry i.
-    fn with(self, i: usize, e: &[u8], name: &[u8]) -> Seen
-        requires { (i < 64) × (length e.now ≡ entry_size) × (name_length e.now ≤ 32) }
-        ensures { result ≡ seen_after name.now i e.now self }
-    {
-        let named = is_named(e, name);
-        let free = e[0] == 0;
-        Seen {
-            named: passed(self.named, i, named),
-            free: passed(self.free, i, free),
-        }
-    }
-
     // The place of the name, else the lowest free one.
-    pub fn place(self) -> usize
-        ensures { result ≡ first_place self.named self.free }
+    pub fn place(self) -> Option<usize>
+        ensures { result ≡ option_or self.named self.free }
     {
-        if self.named < ENTRIES {
-            self.named
-        } else {
-            self.free
-        }
+        self.named.or(self.free)
     }
 }
 
-// Looks at each entry once.
-pub fn survey(table: &[u8], name: &[u8]) -> Surveyed
-    requires { length table.now ≡ table_size }
-    ensures { result ≡ survey_of name.now (entries_in table.now) }
+// Whether one of these entries has this name.
+fn named_among(entries: &[Entry], name: &[u8]) -> bool
+    ensures { result ≡ list_any (is_named name.now) entries.now }
 {
-    let mut met = [0u8; 256];
-    let mut seen = Seen { named: 0, free: 0 };
-    let mut i: usize = 0;
-    while i < ENTRIES {
-        let at = ENTRY * i;
-        let e = &table[at..at + ENTRY];
-        if !is_entry(e) {
-            return Surveyed::Broken;
-        }
-        if !is_fresh(table, i, &mut met) {
-            return Surveyed::Broken;
-        }
-        seen = seen.with(i, e, name);
-        i += 1;
+    entries.iter().any(|e| is_named(e, name))
+}
+
+// Where a name is, if it is there.
+#[tactic(auto, unfolding(crate::specs::Tables::place_of))]
+fn place_of(entries: &[Entry], name: &[u8]) -> Option<usize>
+    ensures { result ≡ place_of name.now entries.now }
+{
+    entries.iter().position(|e| is_named(e, name))
+}
+
+// The lowest free entry, if there is one.
+fn lowest_free(entries: &[Entry]) -> Option<usize>
+    ensures { result ≡ position is_free entries.now }
+{
+    entries.iter().position(|e| e[0] == 0)
+}
+
+// Whether no entry before this one has its name. `met` has the fingerprints of the names before it; only where its own is
+// among them are the names compared. It is among them then.
+fn is_fresh(before: &[Entry], e: &Entry, met: &mut [bool; 256]) -> bool
+    requires { Met met.old before.now }
+    ensures fresh { result ≡ is_fresh before.now e.now }
+    ensures fingerprints { Met met.new (before.now ++ e.now ∷ []) }
+{
+    if e[0] == 0 {
+        return true;
     }
-    Surveyed::Of(seen)
+    let name = name_of(e);
+    let f = usize::from(fingerprint(name));
+    let known = met[f];
+    met[f] = true;
+    !known || !named_among(before, name)
+}
+
+// The entries of a table.
+fn entries_in(table: &[u8]) -> &[Entry]
+    requires { length table.now ≡ table_size }
+    ensures { result.now ≡ entries_in table.now }
+{
+    table.as_chunks().0
+}
+
+// Looks at each entry once. Refuses 7, 24.
+pub fn survey(table: &[u8], name: &[u8]) -> Result<Seen, TagRefusal>
+    ensures { result ≡ surveyed name.now table.now }
+{
+    if table.len() != SIZE {
+        return Err(TagRefusal::OtherSize);
+    }
+    let entries = entries_in(table);
+    let mut met = [false; 256];
+    for (i, e) in entries.iter().enumerate() {
+        if !is_entry(e) || !is_fresh(&entries[..i], e, &mut met) {
+            return Err(TagRefusal::NotATable);
+        }
+    }
+    Ok(Seen {
+        named: place_of(entries, name),
+        free: lowest_free(entries),
+    })
 }

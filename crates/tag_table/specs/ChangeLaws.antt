@@ -1,118 +1,118 @@
 -- Laws of `Changes`: the answers in turn, and what a store leaves.
 -- Assumes nothing.
-use Rattle.std.specs.Prelude.{◌≡◌, refl, Bool, true, false, cond, List, [], ℕ, ◌+◌, ◌-◌, ◌*◌, ◌≤◌, ◌<◌, eqb, length, take, drop, replicate, set}
+use Rattle.std.specs.Prelude.{◌≡◌, refl, Bool, true, false, cond, List, [], ℕ, Option, Some, None, is_some, Ok, Err, ◌+◌, ◌-◌, ◌*◌, ◌<◌, eqb, length, take, drop, position}
 use Rattle.std.proofs.Common.{sym, ap, subst, ◌∙◌, arith}
-use borrow.Author.Tests.{lt-ltb, le-ltb, eq-eqb, ne_eqb}
+use Rattle.std.specs.Option.{ok_or, option_or}
+use borrow.Author.Tests.{eq-eqb}
 use Rattle.std.proofs.lemmas.List.Edits.{sets}
 use Rattle.std.proofs.Math.Seq.{length-sets}
 use Rattle.tag_message.specs.Tags.{is_name, is_tag}
 use Rattle.tag_message.specs.Messages.{name_length, value_length, name_in, value_in, is_message}
-use Rattle.tag_message.specs.MessageLaws.{tag_lengths, Read, passed, read_tag}
+use Rattle.tag_message.specs.MessageLaws.{Read, passed, read_tag}
 use Rattle.tag_message.specs.declared.TagRefusal.{TagRefusal}
-use Rattle.tag_message.specs.declared.TagRefusal.TheVariants.{OtherSize, NotATag, Full, Absent, NotATable}
-use Rattle.tag_entry.specs.Entries.{entry_of, free_entry}
-use Rattle.tag_entry.specs.EntryLaws.{length_entry}
-use Rattle.tag_survey.specs.Tables.{entries_in, is_table, first_place, place_of, place_for}
+use Rattle.tag_message.specs.declared.TagRefusal.TheVariants.{OtherSize, NotATag, Full, NotATable}
+use Rattle.tag_entry.specs.Entries.{is_free}
+use Rattle.tag_survey.specs.Tables.{entries_in, is_table, place_of, place_for}
 use Rattle.tag_survey.specs.TableLaws.{set_entry}
-use Rattle.tag_survey.specs.SurveyLaws.{Sees}
+use Rattle.tag_survey.specs.Surveys.{survey_of, surveyed}
+use Rattle.tag_survey.specs.SurveyLaws.{Sees, position_below, place_of_below}
 use Rattle.tag_survey.specs.declared.Seen.{Seen}
-use Rattle.tag_table.specs.Changes.{answer_to, Leaves, Changes, with_tag, without_tag, SetsTag, TakesTag, RemovesTag}
-use Rattle.tag_table.specs.declared.Changing.{Changing}
-use Rattle.tag_table.specs.declared.Changing.TheVariants.{Done, Refused}
+use Rattle.tag_table.specs.Changes.{Changed, answer_to, Leaves, Changes, replaced, with_tag, SetsTag, TakesTag}
 
--- ---- the answers, in turn
+-- ---- places
 
-module _ (t : List ℕ) (formed : Bool) (place : ℕ) (none : TagRefusal) where
-  other_size : (length t ≡ 6272 → ⊥) → Refused OtherSize ≡ answer_to t formed place none
-  unfolding answer_to
-  other_size h = rw (ne_eqb (length t) 6272 h)
+pub chosen : (place : Option ℕ) (none : TagRefusal) (at : ℕ) → ok_or place none ≡ Ok at → place ≡ Some at
+chosen None none at e = cc
+chosen (Some i) none at e = cc
 
-  out_of_rules : length t ≡ 6272 → is_table (entries_in t) ≡ false → Refused NotATable ≡ answer_to t formed place none
-  unfolding answer_to
-  out_of_rules h k = rw (eq-eqb (length t) 6272 h, k)
+module _ (name t : List ℕ) where
+  pub place_for_below : (at : ℕ) → place_for name (entries_in t) ≡ Some at → at < 64
+  unfolding place_for
+  place_for_below at e = go (place_of name (entries_in t)) refl e
+    where
+      go : (o : Option ℕ) → place_of name (entries_in t) ≡ o → option_or o (position is_free (entries_in t)) ≡ Some at → at < 64
+      go (Some i) q h = place_of_below name t at (q ∙ h)
+      go None q h = position_below t is_free at h
 
-  not_formed : length t ≡ 6272 → is_table (entries_in t) ≡ true → formed ≡ false → Refused NotATag ≡ answer_to t formed place none
-  unfolding answer_to
-  not_formed h k f = rw (eq-eqb (length t) 6272 h, k, f)
+  -- a place of the table
+  pub record Placed (place : Option ℕ) (at : ℕ) : Type 0 where
+    pub is : place ≡ Some at
+    pub below : at < 64
+    pub size : length t ≡ 6272
 
-  no_place : length t ≡ 6272 → is_table (entries_in t) ≡ true → formed ≡ true → 64 ≤ place → Refused none ≡ answer_to t formed place none
-  unfolding answer_to
-  no_place h k f p = rw (eq-eqb (length t) 6272 h, k, f, le-ltb place 64 p)
+  -- the place of a name
+  pub named_at : {seen : Seen} → Sees name t seen → (none : TagRefusal) (at : ℕ) → ok_or seen.named none ≡ Ok at
+      → Placed (place_of name (entries_in t)) at
+  named_at s none at e =
+      let is : place_of name (entries_in t) ≡ Some at = sym s.named ∙ chosen _ none at e in
+      record { is = is; below = place_of_below name t at is; size = s.size }
 
-  done : length t ≡ 6272 → is_table (entries_in t) ≡ true → formed ≡ true → place < 64 → Done ≡ answer_to t formed place none
-  unfolding answer_to
-  done h k f p = rw (eq-eqb (length t) 6272 h, k, f, lt-ltb place 64 p)
+  -- where a tag goes
+  pub place_for_lem : {seen : Seen} → Sees name t seen → option_or seen.named seen.free ≡ place_for name (entries_in t)
+  unfolding place_for
+  place_for_lem s = rw (s.named, s.free)
+
+  pub goes_at : {seen : Seen} → Sees name t seen → (none : TagRefusal) (at : ℕ) → ok_or (option_or seen.named seen.free) none ≡ Ok at
+      → Placed (place_for name (entries_in t)) at
+  goes_at s none at e =
+      let is : place_for name (entries_in t) ≡ Some at = sym (place_for_lem s) ∙ chosen _ none at e in
+      record { is = is; below = place_for_below at is; size = s.size }
 
 -- ---- refusals change nothing
 
-module _ (t : List ℕ) (formed : Bool) (place : ℕ) (none : TagRefusal) (es : List (List ℕ)) where
-  pub refuses_size : (length t ≡ 6272 → ⊥) → Changes (answer_to t formed place none) es t (Refused OtherSize) t
-  refuses_size h = record { answered = other_size t formed place none h; leaves = refl }
+module _ (name t : List ℕ) (formed : Bool) (place : Option ℕ) (none : TagRefusal) where
+  pub refused : {es : List (List ℕ)} {r : TagRefusal} → surveyed name t ≡ Err r → Changes (answer_to t formed place none) es t (Err r) t
+  unfolding answer_to surveyed survey_of
+  refused {es} {r} e = go (eqb (length t) 6272) (is_table (entries_in t)) e
+    where
+      there : Seen
+      there = record { named = place_of name (entries_in t); free = position is_free (entries_in t) }
 
-  pub refuses_table : length t ≡ 6272 → is_table (entries_in t) ≡ false → Changes (answer_to t formed place none) es t (Refused NotATable) t
-  refuses_table h k = record { answered = out_of_rules t formed place none h k; leaves = refl }
+      go : (x y : Bool) → cond x (ok_or (cond y (Some there) None) NotATable) (Err OtherSize) ≡ Err r
+          → Changes (cond x (cond y (cond formed (cond (is_some place) (Ok tt) (Err none)) (Err NotATag)) (Err NotATable)) (Err OtherSize)) es t (Err r) t
+      go true true h = cc
+      go true false h = let q : NotATable ≡ r = cc in record { answered = ap Err (sym q); leaves = refl }
+      go false y h = let q : OtherSize ≡ r = cc in record { answered = ap Err (sym q); leaves = refl }
 
-  pub refuses_form : length t ≡ 6272 → is_table (entries_in t) ≡ true → formed ≡ false
-      → Changes (answer_to t formed place none) es t (Refused NotATag) t
-  refuses_form h k f = record { answered = not_formed t formed place none h k f; leaves = refl }
+  module _ {seen : Seen} (s : Sees name t seen) where
+    pub refuses_form : {es : List (List ℕ)} → formed ≡ false → Changes (answer_to t formed place none) es t (Err NotATag) t
+    unfolding answer_to
+    refuses_form f = record { answered = rw (eq-eqb (length t) 6272 s.size, s.table, f); leaves = refl }
 
-  pub refuses_place : length t ≡ 6272 → is_table (entries_in t) ≡ true → formed ≡ true → 64 ≤ place
-      → Changes (answer_to t formed place none) es t (Refused none) t
-  refuses_place h k f p = record { answered = no_place t formed place none h k f p; leaves = refl }
+    pub refuses_place : {es : List (List ℕ)} {r : TagRefusal} → formed ≡ true → ok_or place none ≡ Err r → Changes (answer_to t formed place none) es t (Err r) t
+    unfolding answer_to
+    refuses_place {r = r} f p = record { answered = rw (eq-eqb (length t) 6272 s.size, s.table, f) (go place p); leaves = refl }
+      where
+        done : Changed
+        done = Ok tt
 
--- ---- set
+        go : (o : Option ℕ) → ok_or o none ≡ Err r → Err r ≡ cond (is_some o) done (Err none)
+        go None e = let q : none ≡ r = cc in ap Err (sym q)
+        go (Some i) e = cc
 
--- where the tag goes
-pub place_for_lem : (name : List ℕ) (es : List (List ℕ)) (s : Seen) (at : ℕ) → Sees name es s → at ≡ first_place s.named s.free
-    → at ≡ place_for name es
-unfolding place_for
-place_for_lem name es s at p e = e ∙ rw (p.named, p.free)
-
-pub tag_set :
-    (name value t after : List ℕ) (at : ℕ) → length t ≡ 6272 → is_table (entries_in t) ≡ true → is_tag name value ≡ true → at < 64 →
-    at ≡ place_for name (entries_in t) → after ≡ sets t (98 * at) (entry_of name value) → SetsTag name value t Done after
-unfolding with_tag
-tag_set name value t after at h k f p e w =
-    let l = tag_lengths name value f in
-    record {
-      answered = done t (is_tag name value) (place_for name (entries_in t)) Full h k f (rw (← e) p);
-      leaves = (
-        ap length w ∙ length-sets t (98 * at) (entry_of name value),
-        ap entries_in w ∙ set_entry t at (entry_of name value) p h (length_entry name value l.most l.short) ∙ ap
-            (λ (i : ℕ). set (entries_in t) i (entry_of name value)) e,
-      );
-    }
-
--- ---- remove
-
-pub tag_removed :
-    (name t after : List ℕ) (at : ℕ) → length t ≡ 6272 → is_table (entries_in t) ≡ true → is_name name ≡ true → at < 64 →
-    at ≡ place_of name (entries_in t) → after ≡ sets t (98 * at) (replicate 98 0) → RemovesTag name t Done after
-unfolding without_tag
-tag_removed name t after at h k f p e w =
-    record {
-      answered = done t (is_name name) (place_of name (entries_in t)) Absent h k f (rw (← e) p);
-      leaves = (
-        ap length w ∙ length-sets t (98 * at) (replicate 98 0),
-        ap entries_in w ∙ set_entry t at (replicate 98 0) p h refl ∙ ap (λ (i : ℕ). set (entries_in t) i free_entry) e,
-      );
+    -- what is stored at a place
+    pub stored : {at : ℕ} (e after : List ℕ) → formed ≡ true → Placed name t place at → length e ≡ 98 → after ≡ sets t (98 * at) e → Changes (answer_to t formed place none) (replaced (entries_in t) place e) t (Ok tt) after
+    unfolding answer_to
+    stored {at} e after f p l w = record {
+      answered = rw (eq-eqb (length t) 6272 s.size, s.table, f, p.is);
+      leaves = (ap length w ∙ length-sets t (98 * at) e, rw p.is (ap entries_in w ∙ set_entry t at e p.below s.size l));
     }
 
 -- ---- take
 
 -- where nothing is of the form, nothing is done
-never_done : (t : List ℕ) (place : ℕ) (none : TagRefusal) (es fs : List (List ℕ)) (a : Changing) (after : List ℕ)
+never_done : (t : List ℕ) (place : Option ℕ) (none : TagRefusal) (es fs : List (List ℕ)) (a : Changed) (after : List ℕ)
     → a ≡ answer_to t false place none → Leaves es a t after → Leaves fs a t after
 unfolding answer_to
-never_done t place none es fs Done after e l = absurd (go (eqb (length t) 6272) (is_table (entries_in t)) e)
+never_done t place none es fs (Ok u) after e l = absurd (go (eqb (length t) 6272) (is_table (entries_in t)) e)
   where
-    go : (x y : Bool) → Done ≡ cond x (cond y (Refused NotATag) (Refused NotATable)) (Refused OtherSize) → ⊥
-    go true true h = let z : ◌≡◌ {A = ℕ} 0 1 = cc in omega arith
-    go true false h = let z : ◌≡◌ {A = ℕ} 0 1 = cc in omega arith
-    go false y h = let z : ◌≡◌ {A = ℕ} 0 1 = cc in omega arith
-never_done t place none es fs (Refused r) after e l = l
+    go : (x y : Bool) → Ok u ≡ cond x (cond y (Err NotATag) (Err NotATable)) (Err OtherSize) → ⊥
+    go true true h = cc
+    go true false h = cc
+    go false y h = cc
+never_done t place none es fs (Err r) after e l = l
 
-pub not_taken : (m t : List ℕ) (a : Changing) (after : List ℕ) → is_message m ≡ false → SetsTag [] [] t a after → TakesTag m t a after
+pub not_taken : (m t : List ℕ) (a : Changed) (after : List ℕ) → is_message m ≡ false → SetsTag [] [] t a after → TakesTag m t a after
 unfolding answer_to is_tag is_name
 not_taken m t a after e p =
     record {
@@ -122,7 +122,7 @@ not_taken m t a after e p =
     }
 
 pub taken :
-    (m t : List ℕ) (n v : ℕ) (a : Changing) (after : List ℕ) → Read m n v →
+    (m t : List ℕ) (n v : ℕ) (a : Changed) (after : List ℕ) → Read m n v →
     SetsTag (take (1 + n - 1) (drop 1 m)) (take (1 + n + 1 + v - (1 + n + 1)) (drop (1 + n + 1) m)) t a after → TakesTag m t a after
 unfolding name_in value_in
 taken m t n v a after r p =

@@ -54,12 +54,12 @@ datagram_lines packed (n ∷ ns) =
 -- ---- the state of a link
 
 -- a text for each element, one behind the other
-unfoldable pub each : {A : Type 0} → (A → List ℕ) → List A → List ℕ
+abbrev pub each : {A : Type 0} → (A → List ℕ) → List A → List ℕ
 each f [] = []
 each f (x ∷ l) = f x ++ each f l
 
 -- numbers, with a space in front of each
-unfoldable pub cell : ℕ → List ℕ
+abbrev pub cell : ℕ → List ℕ
 cell n = ascii " " ++ decimal n
 
 abbrev pub row : List ℕ → List ℕ

@@ -3,7 +3,7 @@
 
 pub mod link;
 
-ghost use Rattle.std.specs.Prelude.{◌≡◌, ◌<◌, min, take};
+ghost use Rattle.std.specs.Prelude.{◌≡◌, take};
 ghost use Rattle.notation.specs.Puts.{Put};
 ghost use Rattle.transcript.specs.Lines.{number_line, bytes_line, refusal_line, answer_line, count_line, time_line, datagram_lines, row};
 
@@ -11,17 +11,13 @@ use answers::Answer;
 use notation::put;
 use protocol::Refusal;
 
-const SPACE: u8 = 32;
-
-const NEWLINE: u8 = 10;
-
 // Words, and a number behind them.
 fn number_line(out: &mut [u8], at: usize, words: &[u8], n: u64) -> usize
     ensures { Put out.old at (number_line words.now n) result out.new }
 {
     let behind = put::bytes(out, at, words);
     let end = put::number(out, behind, n);
-    put::byte(out, end, NEWLINE)
+    put::byte(out, end, b'\n')
 }
 
 // A word, and bytes behind it: `message`, `part` and `datagram`.
@@ -30,7 +26,7 @@ pub fn bytes_line(out: &mut [u8], at: usize, words: &[u8], s: &[u8]) -> usize
 {
     let behind = put::bytes(out, at, words);
     let end = put::hex(out, behind, s);
-    put::byte(out, end, NEWLINE)
+    put::byte(out, end, b'\n')
 }
 
 pub fn refused(out: &mut [u8], at: usize, refusal: Refusal) -> usize
@@ -69,35 +65,19 @@ pub fn time(out: &mut [u8], at: usize, time: Answer<u32>) -> usize
     }
 }
 
-fn least(a: usize, b: usize) -> usize
-    ensures { result ≡ min a b }
-{
-    if a < b { a } else { b }
-}
-
-fn wide(x: u16) -> usize
-    ensures { (result ≡ x) × (result < 65536) }
-{
-    x as usize
-}
-
 // A line for each of the first n datagrams, which stand one behind the other in `packed`.
 pub fn datagrams(out: &mut [u8], at: usize, packed: &[u8], lengths: &[u16], n: usize) -> usize
     ensures { Put out.old at (datagram_lines packed.now (take n lengths.now)) result out.new }
 {
-    let most = least(n, lengths.len());
+    let first = notation::front(lengths, n);
     let mut here = at;
-    let mut from: usize = 0;
-    let mut i: usize = 0;
-    while i < most {
-        let len = wide(lengths[i]);
-        if packed.len() - from < len {
+    let mut rest = packed;
+    for len in first {
+        let Some((datagram, behind)) = rest.split_at_checked(usize::from(*len)) else {
             return here;
-        }
-        let end = from + len;
-        here = bytes_line(out, here, b"datagram ", &packed[from..end]);
-        from = end;
-        i += 1;
+        };
+        here = bytes_line(out, here, b"datagram ", datagram);
+        rest = behind;
     }
     here
 }
@@ -107,11 +87,9 @@ fn row(out: &mut [u8], at: usize, numbers: &[u64]) -> usize
     ensures { Put out.old at (row numbers.now) result out.new }
 {
     let mut here = at;
-    let mut i: usize = 0;
-    while i < numbers.len() {
-        let behind = put::byte(out, here, SPACE);
-        here = put::number(out, behind, numbers[i]);
-        i += 1;
+    for n in numbers {
+        let behind = put::byte(out, here, b' ');
+        here = put::number(out, behind, *n);
     }
     here
 }

@@ -1,6 +1,6 @@
 -- A control segment is 24 bytes; the pairs of an ack list, one more at a time.
 -- Assumes nothing.
-use mathlib.Core.Path.{◌≡◌, refl, sym, ap}
+use mathlib.Core.Path.{◌≡◌, refl, sym, ap, ◌∙◌}
 use mathlib.Core.Bool.{Bool, true, false}
 use mathlib.Core.List.{List, [], ◌∷◌, ◌++◌, map, map-append}
 use Prim.Native.Nat.{ℕ, zero, suc, ◌+◌, ◌*◌, ◌≤◌, ◌<◌}
@@ -12,8 +12,14 @@ use Rattle.session.specs.State.{Ack}
 use Rattle.session.specs.Flushing.{Carried, control, ack_segment, wished, bytes_of_segment}
 use Rattle.control.specs.Views.{pairs}
 use Rattle.packing.specs.declared.Packer.{Packer}
+use Rattle.packing.specs.declared.Writer.{Writer}
 use Rattle.packing.specs.Packers.{Fills, Puts, Adds}
+use Rattle.packing.specs.Writers.{Same}
 use Rattle.packing.specs.PackerLaws.{length_segment, puts_adds, adds_none, adds_append, adds_as}
+
+-- what stays over two steps
+pub same_on : {x y z : Writer} → Same x y → Same y z → Same x z
+same_on a b = record { mtu = b.mtu ∙ a.mtu; carried = b.carried ∙ a.carried; out = b.out ∙ a.out; lengths = b.lengths ∙ a.lengths }
 
 pairs_more : (i : ℕ) (l : List ℕ) → 2 * i + 1 < length l → pairs (suc i) l ≡ pairs i l
     ++ (record { sn = get_or l (2 * i) 0; ts = get_or l (2 * i + 1) 0 } ∷ [])

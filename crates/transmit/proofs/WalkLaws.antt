@@ -11,6 +11,7 @@ use lib.ListN.{length, take, drop, get_or, set, length-set}
 use lib.Seq.{take-add, take-take, set-get_or}
 use Rattle.timing.specs.declared.Record.{Record}
 use Rattle.retransmission.specs.declared.Transmission.{Transmission}
+use Rattle.retransmission.specs.Transmissions.{is_sent, is_late, is_fast}
 use Rattle.retransmission.specs.TransmissionLaws.{transmission_not_sent}
 use Rattle.lists.specs.declared.Sent.{Sent}
 use Rattle.lists.specs.Joining.{with_record}
@@ -20,15 +21,17 @@ use Rattle.datagram.specs.Datagrams.{Segment}
 use Rattle.session.specs.Decides.{All}
 use Rattle.session.specs.Flushing.{after_rule, transmitted, some, some_dead, wished}
 use Rattle.session.specs.RuleLaws.{sent_append}
-use Rattle.packing.specs.declared.Packer.{Packer}
-use Rattle.packing.specs.Packers.{Fills, Room, Adds}
+use Rattle.packing.specs.declared.Writer.{Writer}
+use Rattle.packing.specs.Packers.{Fills}
+use Rattle.packing.specs.Writers.{Same, HasRoom, AddsTo}
 use Rattle.packing.specs.PackerLaws.{adds_none, adds_append, adds_as, room_left}
 use Rattle.words.specs.Words.{unpack, outstanding_at}
 use Rattle.numbering.specs.Sents.{sent_in}
 use Rattle.numbering.proofs.SentLaws.{sents, sents_take, sents_set, sents_get, sents_length, sents_front}
 use Rattle.transmit.specs.declared.Flush.{Flush}
-use Rattle.transmit.proofs.ControlLaws.{wished_none}
-use Rattle.transmit.specs.Writing.{rule_of, left_by, sent_by, late_by, fast_by, sends_by, data_of, InSlot, AllInSlots, sent_as, Walks}
+use Rattle.transmit.specs.declared.Told.{Told}
+use Rattle.transmit.proofs.ControlLaws.{wished_none, same_on}
+use Rattle.transmit.specs.Writing.{rule_of, left_by, sent_by, late_by, fast_by, sends_by, data_of, InSlot, AllInSlots, sent_as, WritesFor, Walks}
 
 -- ---- lists
 
@@ -53,7 +56,7 @@ some_more test l y = rw (some_append test l (y ∷ []), or-false)
 -- ---- those that are sent
 
 -- the rule for the last one decides whether it is sent, and whether the link is dead by it
-module _ (f : Flush) (y x : Sent) (sends : Bool) (p : sends ≡ (rule_of f y).rule.sends) (q : x ≡ after_rule (rule_of f y)) where
+module _ (f : Flush) (y x : Sent) (sends : Bool) (p : sends ≡ is_sent (rule_of f y).rule) (q : x ≡ after_rule (rule_of f y)) where
   one_sent_lem : sent_by f (y ∷ []) ≡ cond sends (x ∷ []) []
   unfolding transmitted
   one_sent_lem = rw (p, q)
@@ -77,54 +80,45 @@ module _ (f : Flush) (y x : Sent) (sends : Bool) (p : sends ≡ (rule_of f y).ru
 -- ---- the loop
 
 -- The first i of the n segments have been handled.
-pub record Walking (f : Flush) (n : ℕ) (pool : List ℕ) (k₀ : Packer) (out₀ lengths₀ : List ℕ) (l₀ : List Sent)
-    (ws ts : List ℕ) (rs : List Record) (k : Packer) (out lengths : List ℕ) (b b₁ b₂ b₃ : Bool) (i : ℕ) : Type 0 where
+pub record Walking (f : Flush) (n : ℕ) (pool : List ℕ) (o : Writer) (l₀ : List Sent)
+    (ws ts : List ℕ) (rs : List Record) (v : Writer) (t : Told) (i : ℕ) : Type 0 where
+  pub same : Same o v
+  pub suits : WritesFor f v
   pub wholes : length ts ≡ 32
   pub whole_records : length rs ≡ 32
   pub list : Packed 32 n l₀ (sents ws ts rs) (left_by f (drop i (take n l₀))) (left_by f (take n l₀)) i i
-  pub adds : Adds f.settings.mtu (map (data_of f pool) (sent_by f (take i (take n l₀)))) (i * f.settings.mtu) i k₀ out₀ lengths₀ k out
-      lengths
-  pub dead : b ≡ some_dead (sent_by f (take i (take n l₀)))
-  pub late : b₁ ≡ late_by f (take i (take n l₀))
-  pub fast : b₂ ≡ fast_by f (take i (take n l₀))
-  pub sends : b₃ ≡ sends_by f (take i (take n l₀))
+  pub adds : AddsTo (map (data_of f pool) (sent_by f (take i (take n l₀)))) (i * f.settings.mtu) i o v
+  pub dead : t.dead ≡ some_dead (sent_by f (take i (take n l₀)))
+  pub late : t.late ≡ late_by f (take i (take n l₀))
+  pub fast : t.fast ≡ fast_by f (take i (take n l₀))
+  pub sends : t.sent ≡ sends_by f (take i (take n l₀))
 
--- the same, by other names
-pub walking_as : {f : Flush} {n : ℕ} {pool : List ℕ} {k₀ : Packer} {out₀ lengths₀ : List ℕ} {l₀ : List Sent}
-    {ws ts ts' : List ℕ} {rs rs' : List Record}
-    {k k' : Packer} {out out' lengths lengths' : List ℕ} {b b' late late' fast fast' sent sent' : Bool} {i : ℕ}
-    → ts' ≡ ts → rs' ≡ rs → out' ≡ out → lengths' ≡ lengths → k' ≡ k → b' ≡ b → late' ≡ late → fast' ≡ fast
-    → sent' ≡ sent
-    → Walking f n pool k₀ out₀ lengths₀ l₀ ws ts rs k out lengths b late fast sent i
-    → Walking f n pool k₀ out₀ lengths₀ l₀ ws ts' rs' k' out' lengths' b' late' fast' sent' i
-walking_as et er eo el ek eb ea ef es w = rw (et, er, eo, el, ek, eb, ea, ef, es) w
-
-pub walking_start : (f : Flush) (n : ℕ) (pool : List ℕ) (k₀ : Packer) (out₀ lengths₀ ws ts : List ℕ) (rs : List Record)
-    → n ≤ 32 → length ws ≡ 32 → length ts ≡ 32 → length rs ≡ 32 → Fills f.settings.mtu k₀
-    → Walking f n pool k₀ out₀ lengths₀ (sents ws ts rs) ws ts rs k₀ out₀ lengths₀ false false false false 0
+pub walking_start : (f : Flush) (n : ℕ) (pool : List ℕ) (o : Writer) (ws ts : List ℕ) (rs : List Record)
+    → WritesFor f o → n ≤ 32 → length ws ≡ 32 → length ts ≡ 32 → length rs ≡ 32 → Fills o.mtu o.packer
+    → Walking f n pool o (sents ws ts rs) ws ts rs o (record { dead = false; late = false; fast = false; sent = false }) 0
 unfolding transmitted
-walking_start f n pool k₀ out₀ lengths₀ ws ts rs h ew et er q =
+walking_start f n pool o ws ts rs u h ew et er q =
     record {
+      same = record { mtu = refl; carried = refl; out = refl; lengths = refl };
+      suits = u;
       wholes = et;
       whole_records = er;
       list = packed_start _ 0 0 (omega arith) (omega arith) h (sents_length ws ts rs ew et er);
-      adds = adds_as (adds_none f.settings.mtu k₀ out₀ lengths₀ q) refl (omega arith) (omega arith);
+      adds = adds_as (adds_none o.mtu o.packer o.out.now o.lengths.now q) refl (omega arith) (omega arith);
       dead = refl;
       late = refl;
       fast = refl;
       sends = refl;
     }
 
-module _ (f : Flush) (n : ℕ) (pool : List ℕ) (k₀ : Packer) (out₀ lengths₀ : List ℕ) (l₀ : List Sent) (ws ts : List ℕ) (rs : List Record)
-    (k : Packer) (out lengths : List ℕ) (dead late fast sent : Bool) (i : ℕ)
-    (w : Walking f n pool k₀ out₀ lengths₀ l₀ ws ts rs k out lengths dead late fast sent i) where
+module _ (f : Flush) (n : ℕ) (pool : List ℕ) (o : Writer) (l₀ : List Sent) (ws ts : List ℕ) (rs : List Record)
+    (v : Writer) (t : Told) (i : ℕ) (w : Walking f n pool o l₀ ws ts rs v t i) where
   module _ (h : i < n) where
     -- there is room for the next one
-    pub walking_room : Room f.settings.mtu (32 * f.settings.mtu) 32 k₀ out₀ lengths₀
-        → Room f.settings.mtu f.settings.mtu 1 k out lengths
+    pub walking_room : HasRoom (32 * f.settings.mtu) 32 o → HasRoom f.settings.mtu 1 v
     walking_room a =
         let below : suc i ≤ 32 = omega (arith, w.list.room) in
-        room_left w.adds a (omega (arith, mul-le-mul_right f.settings.mtu below)) (omega arith)
+        rw w.same.mtu (room_left w.adds a (omega (arith, mul-le-mul_right f.settings.mtu below)) (omega arith))
 
     module _ (whole : length ws ≡ 32) (r : Record) where
       -- what is read next
@@ -147,59 +141,69 @@ module _ (f : Flush) (n : ℕ) (pool : List ℕ) (k₀ : Packer) (out₀ lengths
         after = rw e
 
         -- a turn
-        turn : (ts' : List ℕ) (rs' : List Record) (k' : Packer) (out' lengths' : List ℕ) (b : Bool)
+        turn : (ts' : List ℕ) (rs' : List Record) (v' : Writer) (b : Bool)
             → length ts' ≡ 32 → length rs' ≡ 32
-            → set (sents ws ts rs) i (sent_as (get_or ws i 0) x) ≡ sents ws ts' rs'
-            → Adds f.settings.mtu (wished x.sends (data_of f pool (sent_as (get_or ws i 0) x))) f.settings.mtu 1 k out lengths k'
-            out' lengths'
-            → b ≡ (x.sends && eqb x.transmissions 20)
-            → Walking f n pool k₀ out₀ lengths₀ l₀ ws ts' rs' k' out' lengths' (dead || b) (late || x.late) (fast || x.fast)
-            (sent || x.sends) (i + 1)
-        turn ts' rs' k' out' lengths' b l m s a t =
+            → set (sents ws ts rs) i (sent_as (get_or ws i 0) x) ≡ sents ws ts' rs' → Same v v'
+            → AddsTo (wished (is_sent x) (data_of f pool (sent_as (get_or ws i 0) x))) f.settings.mtu 1 v v'
+            → b ≡ (is_sent x && eqb x.transmissions 20)
+            → Walking f n pool o l₀ ws ts' rs' v' (record {
+              dead = t.dead || b;
+              late = t.late || is_late x;
+              fast = t.fast || is_fast x;
+              sent = t.sent || is_sent x;
+            }) (i + 1)
+        turn ts' rs' v' b l m s keeps a d =
             let more = prefix_more (take n l₀) (drop (i + 1) (take n l₀)) i read next in
-            let sends = ap (λ (y : Transmission). y.sends) e in
+            let sends = ap (λ (y : Transmission). is_sent y) e in
             record {
+              same = same_on w.same keeps;
+              suits = record { mtu = keeps.mtu ∙ w.suits.mtu; carried = keeps.carried ∙ w.suits.carried };
               wholes = l;
               whole_records = m;
               list = rw (← s, after) (packed_put h (rw next at w.list));
-              adds = rw (more, sent_data f read (sent_as (get_or ws i 0) x) x.sends sends after)
-                  (adds_as (adds_append w.adds a) refl (omega arith) (omega arith));
-              dead = rw (more, sent_dead f read (sent_as (get_or ws i 0) x) x.sends sends after, ← w.dead, ← t);
+              adds = rw (more, sent_data f read (sent_as (get_or ws i 0) x) (is_sent x) sends after)
+                  (adds_as (adds_append w.adds (rw w.same.mtu at a)) refl (omega arith) (omega arith));
+              dead = rw (more, sent_dead f read (sent_as (get_or ws i 0) x) (is_sent x) sends after, ← w.dead, ← d);
               late = rw (more, map-append, some_more, ← w.late, ← e);
               fast = rw (more, map-append, some_more, ← w.fast, ← e);
               sends = rw (more, map-append, some_more, ← w.sends, ← e);
             }
 
         -- it is sent
-        pub walking_sent : (k' : Packer) (out' lengths' : List ℕ) → x.sends ≡ true
-            → Adds f.settings.mtu (data_of f pool (sent_as (get_or ws i 0) x) ∷ []) f.settings.mtu 1 k out lengths k' out' lengths'
-            → Walking f n pool k₀ out₀ lengths₀ l₀ ws (set ts i x.transmissions) (set rs i x.updated) k' out' lengths'
-            (dead || eqb x.transmissions 20) (late || x.late) (fast || x.fast) true (i + 1)
-        walking_sent k' out' lengths' s a =
-            rw (s, or-true sent) at (turn (set ts i x.transmissions) (set rs i x.updated) k' out' lengths' (eqb x.transmissions 20)
+        pub walking_sent : (v' : Writer) → is_sent x ≡ true → Same v v'
+            → AddsTo (data_of f pool (sent_as (get_or ws i 0) x) ∷ []) f.settings.mtu 1 v v'
+            → Walking f n pool o l₀ ws (set ts i x.transmissions) (set rs i x.updated) v' (record {
+              dead = t.dead || eqb x.transmissions 20;
+              late = t.late || is_late x;
+              fast = t.fast || is_fast x;
+              sent = true;
+            }) (i + 1)
+        walking_sent v' s keeps a =
+            rw (s, or-true t.sent) at (turn (set ts i x.transmissions) (set rs i x.updated) v' (eqb x.transmissions 20)
             (length-set ts i x.transmissions ∙ w.wholes) (length-set rs i x.updated ∙ w.whole_records)
             (sents_set ws ts rs i (get_or ws i 0) x.transmissions x.updated ∙ rw (set-get_or ws i 0))
+            keeps
             (rw s a)
             (rw s))
 
         -- it is not sent, and stays
-        pub walking_unchanged : x.sends ≡ false → Walking f n pool k₀ out₀ lengths₀ l₀ ws ts rs k out lengths dead late fast sent (i + 1)
+        pub walking_unchanged : is_sent x ≡ false → Walking f n pool o l₀ ws ts rs v t (i + 1)
         walking_unchanged s =
             let same = e ∙ transmission_not_sent f.settings f.timeout f.t (get_or ts i 0) (get_or rs i r)
-            (sym (ap (λ (y : Transmission). y.sends) e) ∙ s) in
-            let on-time : x.late ≡ false = ap (λ (y : Transmission). y.late) same in
-            let in-turn : x.fast ≡ false = ap (λ (y : Transmission). y.fast) same in
-            rw (on-time, in-turn, s, or-false dead, or-false late, or-false fast, or-false sent) at (turn ts rs k out lengths false
+            (sym (ap (λ (y : Transmission). is_sent y) e) ∙ s) in
+            let on-time : is_late x ≡ false = ap (λ (y : Transmission). is_late y) same in
+            let in-turn : is_fast x ≡ false = ap (λ (y : Transmission). is_fast y) same in
+            rw (on-time, in-turn, s, or-false t.dead, or-false t.late, or-false t.fast, or-false t.sent) at (turn ts rs v false
             w.wholes w.whole_records
             (ap (λ (y : Sent). set (sents ws ts rs) i y) (ap (sent_as (get_or ws i 0)) same ∙ sym here)
             ∙ set-get_or (sents ws ts rs) i (with_record (outstanding_at 0 0) r))
-            (wished_none _ _ _ _ k out lengths x.sends s w.adds.fills)
+            (record { mtu = refl; carried = refl; out = refl; lengths = refl })
+            (wished_none _ _ _ _ v.packer v.out.now v.lengths.now (is_sent x) s (rw w.same.mtu w.adds.fills))
             (rw s))
 
   -- all are handled
   pub walking_done : (ts₀ : List ℕ) (rs₀ : List Record) → l₀ ≡ sents ws ts₀ rs₀ → length ws ≡ 32 → n ≤ i
-      → Walks f (sent_in ws ts₀ rs₀ n) ws n pool k₀ out₀ lengths₀
-      (record { packer = k; dead = dead; late = late; fast = fast; sent = sent }) ts rs out lengths
+      → Walks f (sent_in ws ts₀ rs₀ n) ws n pool o t ts rs v
   walking_done ts₀ rs₀ q whole h =
       let all : i ≡ n = omega (arith, w.list.upto) in
       let here : take n l₀ ≡ sent_in ws ts₀ rs₀ n = rw q (sym (sents_take ws ts₀ rs₀ n)) in

@@ -12,10 +12,12 @@ use Rattle.session.specs.State.{Ack}
 use Rattle.session.specs.Flushing.{control, ack_segment, wished, pack_one, packed}
 use Rattle.packing.specs.declared.Packer.{Packer}
 use Rattle.packing.specs.Packers.{carried_of, Output, bytes_of_datagrams, none, Adds, Finishes}
+use Rattle.packing.specs.declared.Writer.{Writer}
+use Rattle.packing.specs.Writers.{Same, AddsTo}
 use Rattle.packing.specs.PackerLaws.{adds_append, packs_none, finishes_output}
 use Rattle.transmit.specs.declared.Flush.{Flush}
-use Rattle.transmit.specs.declared.Walked.{Walked}
-use Rattle.transmit.specs.Writing.{Walks, Writes}
+use Rattle.transmit.specs.declared.Told.{Told}
+use Rattle.transmit.specs.Writing.{WritesFor, Walks, Writes}
 
 output_of : (mtu n m : ℕ) (gs : List Segment) (k₀ : Packer) (out lengths : List ℕ) (k : Packer) (out' lengths' : List ℕ) (count : ℕ)
     (lengths'' : List ℕ)
@@ -27,23 +29,22 @@ output_of mtu n m gs k₀ out lengths k out' lengths' count lengths'' e a c =
     ((rw e at a).packs out lengths (record { closed = []; filling = [] }) (packs_none out lengths))
 
 pub writes_all : (f : Flush) (acks : List Ack) (ask tell : Bool) (l : List Sent) (words : List ℕ) (count : ℕ) (pool : List ℕ) (n m : ℕ)
-    (k₀ : Packer) (out lengths : List ℕ) (k : Packer) (out' lengths' : List ℕ) (r : Walked)
-    (transmissions' : List ℕ) (records' : List Record) (out'' lengths'' : List ℕ)
-    (number : ℕ) (lengths''' : List ℕ)
-    → k₀ ≡ none
-    → Adds f.settings.mtu (map (ack_segment (carried_of f.carried)) acks ++ wished ask (control (carried_of f.carried) window_ask 0 0)
-    ++ wished tell (control (carried_of f.carried) window_tell 0 0)) n m k₀ out lengths k out' lengths'
-    → Walks f l words count pool k out' lengths' r transmissions' records' out'' lengths''
-    → Finishes r.packer lengths'' number lengths'''
-    → Writes f acks ask tell l words count pool out lengths
-    (record { dead = r.dead; late = r.late; fast = r.fast; sent = r.sent; count = number }) transmissions' records' out'' lengths'''
-writes_all f acks ask tell l words count pool n m k₀ out lengths k out' lengths' r ts' rs' out'' lengths'' number lengths''' e a v c =
+    (o v v' : Writer) (r : Told) (transmissions' : List ℕ) (records' : List Record) (number : ℕ) (v'' : Writer)
+    → o.packer ≡ none → WritesFor f o → Same o v
+    → AddsTo (map (ack_segment (carried_of f.carried)) acks ++ wished ask (control (carried_of f.carried) window_ask 0 0)
+    ++ wished tell (control (carried_of f.carried) window_tell 0 0)) n m o v
+    → Walks f l words count pool v r transmissions' records' v'
+    → v''.out.now ≡ v'.out.now → Finishes v'.packer v'.lengths.now number v''.lengths.now
+    → (out lengths out' lengths' : List ℕ) → o.out.now ≡ out → o.lengths.now ≡ lengths → out' ≡ v''.out.now → lengths' ≡ v''.lengths.now
+    → Writes f acks ask tell l words count pool out lengths (record { told = r; count = number }) transmissions' records' out' lengths'
+writes_all f acks ask tell l words count pool n m o v v' r ts' rs' number v'' e u same a w stays c out lengths out' lengths' p q p' q' =
     record {
-      output = rw (append_assoc, append_assoc) at
-          (output_of _ _ _ _ k₀ out lengths r.packer out'' lengths'' number lengths''' e (adds_append a v.adds) c);
-      sent = v.sent;
-      dead = v.dead;
-      late = v.late;
-      fast = v.fast;
-      sends = v.sends;
+      output = rw (append_assoc, append_assoc, u.mtu, p, q, ← stays, ← p', ← q') at
+          (output_of _ _ _ _ o.packer o.out.now o.lengths.now v'.packer v'.out.now v'.lengths.now number v''.lengths.now e
+          (adds_append a (rw same.mtu at w.adds)) c);
+      sent = w.sent;
+      dead = w.dead;
+      late = w.late;
+      fast = w.fast;
+      sends = w.sends;
     }

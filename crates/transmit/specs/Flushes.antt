@@ -5,6 +5,7 @@ use Rattle.timing.specs.declared.Record.{Record}
 use Rattle.timing.specs.Probes.{next_clock}
 use Rattle.lists.specs.declared.Sent.{Sent}
 use Rattle.packing.specs.Packers.{carried_of, Output, bytes_of_datagrams}
+use Rattle.retransmission.specs.Transmissions.{is_sent}
 use Rattle.session.specs.State.{State}
 use Rattle.session.specs.Flushing.{Ruled, ruled, some, carried, window_of, numbered_count, with_numbered, flushing}
 use Rattle.session.specs.RuleLaws.{losses_at}
@@ -30,7 +31,7 @@ asks s t = s.ask || (next_clock s.probe t s.sending.window).ask
 -- one of them is sent at t
 abbrev pub sends_at : State → ℕ → Bool
 sends_at s t =
-    some (λ (r : Ruled). r.rule.sends) (ruled s.settings s.sending.round_trip.timeout t (outstanding_now s))
+    some (λ (r : Ruled). is_sent r.rule) (ruled s.settings s.sending.round_trip.timeout t (outstanding_now s))
 
 -- what a flush of the state s at t writes: the output has its datagrams, the arrays its outstanding segments, n of them, dead is as after
 -- it, late and fast are what it tells of losses, and sent is whether it sends one of them
@@ -38,7 +39,7 @@ pub record FlushWrites (s : State) (t : ℕ) (words : List ℕ) (n : ℕ) (pool 
     (transmissions' : List ℕ) (records' : List Record) (out' lengths' : List ℕ) : Type 0 where
   pub output : Output (bytes_of_datagrams (flushing s t pool).datagrams) out lengths r.count out' lengths'
   pub sent : SentFront words transmissions' records' n (flushing s t pool).state.sending.outstanding
-  pub dead : (s.dead || r.dead) ≡ (flushing s t pool).state.dead
-  pub late : r.late ≡ (losses_at s t).late
-  pub fast : r.fast ≡ (losses_at s t).fast
-  pub sends : r.sent ≡ sends_at s t
+  pub dead : (s.dead || r.told.dead) ≡ (flushing s t pool).state.dead
+  pub late : r.told.late ≡ (losses_at s t).late
+  pub fast : r.told.fast ≡ (losses_at s t).fast
+  pub sends : r.told.sent ≡ sends_at s t

@@ -5,7 +5,7 @@ use Rattle.std.proofs.Math.Path.{refl}
 use Rattle.std.proofs.Common.{◌∙◌, true≢false}
 use mathlib.Core.List.{List, [], ◌∷◌, ◌++◌, append-nil}
 use Rattle.protocol.specs.declared.Settings.{Settings}
-use Rattle.retransmission.specs.Transmissions.{transmission}
+use Rattle.retransmission.specs.Transmissions.{is_sent, transmission}
 use Rattle.retransmission.specs.TransmissionLaws.{transmission_not_sent}
 use Rattle.lists.specs.declared.Held.{Held}
 use Rattle.lists.specs.declared.Sent.{Sent}
@@ -16,17 +16,17 @@ use Rattle.transmit.specs.Flushes.{sends_at}
 
 module _ (c : Settings) (timeout t : ℕ) where
   abbrev sends : List Sent → Bool
-  sends l = some (λ (r : Ruled). r.rule.sends) (ruled c timeout t l)
+  sends l = some (λ (r : Ruled). is_sent r.rule) (ruled c timeout t l)
 
   stay : (l : List Sent) → sends l ≡ false → afterwards (ruled c timeout t l) ≡ l
   stay [] e = refl
   stay (x ∷ l) e =
-      let h = or_parts (transmission c timeout t x.transmissions x.record).sends (sends l) e in
+      let h = or_parts (is_sent (transmission c timeout t x.transmissions x.record)) (sends l) e in
       rw (transmission_not_sent c timeout t x.transmissions x.record h.0, stay l h.1)
 
   behind : (l r : List Sent) → sends (l ++ r) ≡ false → sends r ≡ false
   behind [] r e = e
-  behind (x ∷ l) r e = behind l r (or_parts (transmission c timeout t x.transmissions x.record).sends (sends (l ++ r)) e).1
+  behind (x ∷ l) r e = behind l r (or_parts (is_sent (transmission c timeout t x.transmissions x.record)) (sends (l ++ r)) e).1
 
   none_numbered : (n : ℕ) (q : List Held) → sends (numbered n q) ≡ false → numbered n q ≡ []
   unfolding numbered transmission

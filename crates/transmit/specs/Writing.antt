@@ -4,6 +4,7 @@ use Rattle.std.specs.Prelude.{◌≡◌, Bool, List, ◌++◌, map, ℕ, ◌+◌
 use Rattle.protocol.specs.Protocol.{window_ask, window_tell, send_slots}
 use Rattle.protocol.specs.Ranges.{mss}
 use Rattle.timing.specs.declared.Record.{Record}
+use Rattle.retransmission.specs.Transmissions.{is_sent, is_late, is_fast}
 use Rattle.retransmission.specs.declared.Transmission.{Transmission}
 use Rattle.lists.specs.declared.Held.{Held}
 use Rattle.lists.specs.declared.Sent.{Sent}
@@ -24,12 +25,13 @@ use Rattle.session.specs.Flushing.{
   wished,
   packed,
 }
-use Rattle.packing.specs.declared.Packer.{Packer}
-use Rattle.packing.specs.Packers.{carried_of, Output, bytes_of_datagrams, Adds}
+use Rattle.packing.specs.declared.Writer.{Writer}
+use Rattle.packing.specs.Packers.{carried_of, Output, bytes_of_datagrams}
+use Rattle.packing.specs.Writers.{AddsTo}
 use Rattle.words.specs.Words.{unpack}
 use Rattle.numbering.specs.Sents.{sent_in, SentFront}
 use Rattle.transmit.specs.declared.Flush.{Flush}
-use Rattle.transmit.specs.declared.Walked.{Walked}
+use Rattle.transmit.specs.declared.Told.{Told}
 use Rattle.transmit.specs.declared.Written.{Written}
 
 -- ---- the outstanding segments
@@ -51,14 +53,14 @@ sent_by f l = transmitted (rules_of f l)
 
 -- one is sent because it was due, or because it was skipped
 abbrev pub late_by : Flush → List Sent → Bool
-late_by f l = some (λ (r : Ruled). r.rule.late) (rules_of f l)
+late_by f l = some (λ (r : Ruled). is_late r.rule) (rules_of f l)
 
 abbrev pub fast_by : Flush → List Sent → Bool
-fast_by f l = some (λ (r : Ruled). r.rule.fast) (rules_of f l)
+fast_by f l = some (λ (r : Ruled). is_fast r.rule) (rules_of f l)
 
 -- one is sent
 abbrev pub sends_by : Flush → List Sent → Bool
-sends_by f l = some (λ (r : Ruled). r.rule.sends) (rules_of f l)
+sends_by f l = some (λ (r : Ruled). is_sent r.rule) (rules_of f l)
 
 -- one of them as a data segment
 abbrev pub data_of : Flush → List ℕ → Sent → Segment
@@ -87,11 +89,16 @@ pub record Sendable (f : Flush) (words transmissions : List ℕ) (records : List
   pub inside : AllInSlots (mss f.settings) (sent_in words transmissions records n)
   pub slots : 128 * mss f.settings ≤ length pool
 
+-- a writer with the limit of the flush's settings, and what its segments carry
+pub record WritesFor (f : Flush) (w : Writer) : Type 0 where
+  pub mtu : w.mtu ≡ f.settings.mtu
+  pub carried : w.carried ≡ f.carried
+
 -- all n segments of l are handled: those sent are put as data, each is as its rule leaves it, and it is told whether one was sent, and
 -- whether one sent was transmitted 20 times, due or skipped
-pub record Walks (f : Flush) (l : List Sent) (words : List ℕ) (n : ℕ) (pool : List ℕ) (k : Packer) (out lengths : List ℕ) (r : Walked)
-    (transmissions' : List ℕ) (records' : List Record) (out' lengths' : List ℕ) : Type 0 where
-  pub adds : Adds f.settings.mtu (map (data_of f pool) (sent_by f l)) (32 * f.settings.mtu) 32 k out lengths r.packer out' lengths'
+pub record Walks (f : Flush) (l : List Sent) (words : List ℕ) (n : ℕ) (pool : List ℕ) (w : Writer) (r : Told)
+    (transmissions' : List ℕ) (records' : List Record) (w' : Writer) : Type 0 where
+  pub adds : AddsTo (map (data_of f pool) (sent_by f l)) (32 * f.settings.mtu) 32 w w'
   pub sent : SentFront words transmissions' records' n (left_by f l)
   pub dead : r.dead ≡ some_dead (sent_by f l)
   pub late : r.late ≡ late_by f l
@@ -125,7 +132,7 @@ pub record Writes (f : Flush) (acks : List Ack) (ask tell : Bool) (l : List Sent
   pub output : Output (bytes_of_datagrams (packed f.settings.mtu (segments_of f acks ask tell pool (sent_by f l)))) out lengths r.count
       out' lengths'
   pub sent : SentFront words transmissions' records' n (left_by f l)
-  pub dead : r.dead ≡ some_dead (sent_by f l)
-  pub late : r.late ≡ late_by f l
-  pub fast : r.fast ≡ fast_by f l
-  pub sends : r.sent ≡ sends_by f l
+  pub dead : r.told.dead ≡ some_dead (sent_by f l)
+  pub late : r.told.late ≡ late_by f l
+  pub fast : r.told.fast ≡ fast_by f l
+  pub sends : r.told.sent ≡ sends_by f l

@@ -3,84 +3,43 @@ ghost use Rattle.std.specs.Prelude.{◌++◌, map, ◌+◌, ◌*◌, ◌≤◌, 
 ghost use Rattle.protocol.specs.Protocol.{window_ask, window_tell};
 ghost use Rattle.session.specs.Flushing.{control, ack_segment, wished};
 ghost use Rattle.control.specs.Views.{pairs};
-ghost use Rattle.packing.specs.Packers.{carried_of, Room, Adds};
+ghost use Rattle.packing.specs.Packers.{carried_of};
+ghost use Rattle.packing.specs.Writers.{Same, HasRoom, AddsTo};
 
-use packing::{Carried, Packer};
+use packing::Writer;
 use protocol::Protocol;
 
 // An ack for each of the first n pairs of the ack list, sn then ts.
-fn put_acks(
-    packer: Packer,
-    mtu: usize,
-    carried: Carried,
-    acks: &[u32],
-    n: usize,
-    out: &mut [u8],
-    lengths: &mut [u16],
-) -> Packer
-    requires { Room mtu (24 * n) n packer out.old lengths.old × (24 ≤ mtu) × (2 * n ≤ length acks.now) }
-    ensures { Adds mtu (map (ack_segment (carried_of carried)) (pairs n acks.now)) (24 * n) n
-        packer out.old lengths.old result out.new lengths.new }
+fn put_acks(writer: &mut Writer, acks: &[u32], n: usize)
+    requires { HasRoom (24 * n) n writer.old × (24 ≤ writer.old.mtu) × (2 * n ≤ length acks.now) }
+    ensures same { Same writer.old writer.new }
+    ensures adds { AddsTo (map (ack_segment (carried_of writer.old.carried)) (pairs n acks.now)) (24 * n) n writer.old writer.new }
 {
-    let mut k = packer;
-    let mut i: usize = 0;
-    while i < n {
-        let sn = acks[2 * i];
-        let ts = acks[2 * i + 1];
-        k = packing::put_control(k, mtu, carried, Protocol::ACK, sn, ts, out, lengths);
-        i += 1;
+    for i in 0..n {
+        writer.put_control(Protocol::ACK, acks[2 * i], acks[2 * i + 1]);
     }
-    k
 }
 
 // An ask or a tell, if it is wanted.
-fn put_wished(
-    packer: Packer,
-    mtu: usize,
-    carried: Carried,
-    cmd: u8,
-    wish: bool,
-    out: &mut [u8],
-    lengths: &mut [u16],
-) -> Packer
-    requires { Room mtu 24 1 packer out.old lengths.old × (24 ≤ mtu) }
-    ensures { Adds mtu (wished wish (control (carried_of carried) cmd 0 0)) 24 1
-        packer out.old lengths.old result out.new lengths.new }
+fn put_wished(writer: &mut Writer, cmd: u8, wish: bool)
+    requires { HasRoom 24 1 writer.old × (24 ≤ writer.old.mtu) }
+    ensures same { Same writer.old writer.new }
+    ensures adds { AddsTo (wished wish (control (carried_of writer.old.carried) cmd 0 0)) 24 1 writer.old writer.new }
 {
     if wish {
-        packing::put_control(packer, mtu, carried, cmd, 0, 0, out, lengths)
-    } else {
-        packer
+        writer.put_control(cmd, 0, 0);
     }
 }
 
 // All of them.
-pub(crate) fn put_controls(
-    packer: Packer,
-    mtu: usize,
-    carried: Carried,
-    acks: &[u32],
-    n: usize,
-    ask: bool,
-    tell: bool,
-    out: &mut [u8],
-    lengths: &mut [u16],
-) -> Packer
-    requires { Room mtu (24 * n + 48) (n + 2) packer out.old lengths.old × (24 ≤ mtu) × (2 * n ≤ length acks.now) }
-    ensures { Adds mtu (map (ack_segment (carried_of carried)) (pairs n acks.now)
-        ++ wished ask (control (carried_of carried) window_ask 0 0)
-        ++ wished tell (control (carried_of carried) window_tell 0 0)) (24 * n + 48) (n + 2)
-        packer out.old lengths.old result out.new lengths.new }
+pub(crate) fn put_controls(writer: &mut Writer, acks: &[u32], n: usize, ask: bool, tell: bool)
+    requires { HasRoom (24 * n + 48) (n + 2) writer.old × (24 ≤ writer.old.mtu) × (2 * n ≤ length acks.now) }
+    ensures same { Same writer.old writer.new }
+    ensures adds { AddsTo (map (ack_segment (carried_of writer.old.carried)) (pairs n acks.now)
+        ++ wished ask (control (carried_of writer.old.carried) window_ask 0 0)
+        ++ wished tell (control (carried_of writer.old.carried) window_tell 0 0)) (24 * n + 48) (n + 2) writer.old writer.new }
 {
-    let acked = put_acks(packer, mtu, carried, acks, n, out, lengths);
-    let asked = put_wished(acked, mtu, carried, Protocol::WINDOW_ASK, ask, out, lengths);
-    put_wished(
-        asked,
-        mtu,
-        carried,
-        Protocol::WINDOW_TELL,
-        tell,
-        out,
-        lengths,
-    )
+    put_acks(writer, acks, n);
+    put_wished(writer, Protocol::WINDOW_ASK, ask);
+    put_wished(writer, Protocol::WINDOW_TELL, tell);
 }

@@ -9,7 +9,7 @@ ghost use Rattle.control.specs.Views.{pairs};
 ghost use Rattle.numbering.specs.Sents.{sent_in};
 ghost use Rattle.transmit.specs.Writing.{Writable, Writes};
 
-use packing::{Carried, Packer};
+use packing::{Carried, Writer};
 use protocol::Settings;
 use timing::Record;
 
@@ -22,25 +22,20 @@ pub struct Flush {
     pub t: u32,
 }
 
-// The packer behind the data that was put, whether one of the outstanding segments was sent, and whether one sent was transmitted
-// 20 times, was due (late), or was skipped (fast).
+// What the flush did with the outstanding segments: whether one was sent, and whether one sent was transmitted 20 times, was due
+// (late), or was skipped (fast).
 #[derive(Clone, Copy)]
-struct Walked {
-    packer: Packer,
-    dead: bool,
-    late: bool,
-    fast: bool,
-    sent: bool,
-}
-
-// What a flush has written: whether one of the outstanding segments was sent, whether one sent was transmitted 20 times, was due
-// (late), or was skipped (fast), and the number of datagrams.
-#[derive(Clone, Copy)]
-pub struct Written {
+pub struct Told {
     pub dead: bool,
     pub late: bool,
     pub fast: bool,
     pub sent: bool,
+}
+
+// The same, with the number of datagrams that it has written.
+#[derive(Clone, Copy)]
+pub struct Written {
+    pub told: Told,
     pub count: usize,
 }
 
@@ -66,35 +61,19 @@ pub fn write(
         pool.now out.old lengths.old
         result transmissions.new records.new out.new lengths.new }
 {
-    let mtu = flush.settings.mtu as usize;
-    let controls = controls::put_controls(
-        Packer::new(),
-        mtu,
-        flush.carried,
-        acks,
-        noted,
-        ask,
-        tell,
-        out,
-        lengths,
-    );
-    let walked = transmitting::put_outstanding(
-        controls,
+    let mut writer = Writer::new(flush.settings.mtu as usize, flush.carried, out, lengths);
+    controls::put_controls(&mut writer, acks, noted, ask, tell);
+    let told = transmitting::put_outstanding(
+        &mut writer,
         flush,
         words,
         transmissions,
         records,
         n,
         pool,
-        out,
-        lengths,
     );
-    let count = packing::finish(walked.packer, mtu, lengths);
     Written {
-        dead: walked.dead,
-        late: walked.late,
-        fast: walked.fast,
-        sent: walked.sent,
-        count,
+        told,
+        count: writer.finish(),
     }
 }

@@ -1,102 +1,75 @@
 // Outstanding segments: each is handled by its rule, and those that are sent are put as data.
 ghost use Rattle.std.specs.Prelude.{[], ◌∷◌, ◌*◌, ◌≤◌, length};
 ghost use Rattle.protocol.specs.Ranges.{mss};
-ghost use Rattle.packing.specs.Packers.{Room, Adds};
+ghost use Rattle.packing.specs.Writers.{Same, HasRoom, AddsTo};
 ghost use Rattle.words.specs.Words.{unpack};
 ghost use Rattle.numbering.specs.Sents.{sent_in};
-ghost use Rattle.transmit.specs.Writing.{data_of, InSlot, sent_as, Sendable, Walks};
+ghost use Rattle.transmit.specs.Writing.{data_of, InSlot, sent_as, WritesFor, Sendable, Walks};
 
-use crate::{Flush, Walked};
+use crate::{Flush, Told};
 use lists::{Held, Sent};
-use packing::Packer;
+use packing::Writer;
 use protocol::Protocol;
-use retransmission::{Transmission, outstanding};
+use retransmission::{Cause, Transmission, outstanding};
 use timing::Record;
 
 // The data of the segment of this word, sent as its rule says.
-fn put_sent(
-    packer: Packer,
-    flush: Flush,
-    word: u32,
-    x: Transmission,
-    pool: &[u8],
-    out: &mut [u8],
-    lengths: &mut [u16],
-) -> Packer
-    requires { Room flush.settings.mtu flush.settings.mtu 1 packer out.old lengths.old × (24 ≤ flush.settings.mtu)
+fn put_sent(writer: &mut Writer, flush: Flush, word: u32, x: Transmission, pool: &[u8])
+    requires { HasRoom flush.settings.mtu 1 writer.old × (24 ≤ flush.settings.mtu) × WritesFor flush writer.old
         × InSlot (mss flush.settings) (unpack word) × (128 * mss flush.settings ≤ length pool.now) }
-    ensures { Adds flush.settings.mtu (data_of flush pool.now (sent_as word x) ∷ []) flush.settings.mtu 1
-        packer out.old lengths.old result out.new lengths.new }
+    ensures same { Same writer.old writer.new }
+    ensures adds { AddsTo (data_of flush pool.now (sent_as word x) ∷ []) flush.settings.mtu 1 writer.old writer.new }
 {
-    let held = Held::from(word);
-    let record = x.updated;
     let sent = Sent {
-        held,
+        held: Held::from(word),
         transmissions: x.transmissions,
-        record,
+        record: x.updated,
     };
-    packing::put_data(
-        packer,
-        flush.settings.mtu as usize,
-        flush.carried,
-        flush.t,
-        sent,
-        pool,
-        out,
-        lengths,
-    )
+    writer.put_data(flush.t, sent, pool);
 }
 
 // All n of them, in order of sn. One that is not sent stays as it is.
 pub(crate) fn put_outstanding(
-    packer: Packer,
+    writer: &mut Writer,
     flush: Flush,
     words: &[u32; 32],
     transmissions: &mut [u8; 32],
     records: &mut [Record; 32],
     n: usize,
     pool: &[u8],
-    out: &mut [u8],
-    lengths: &mut [u16],
-) -> Walked
-    requires { Room flush.settings.mtu (32 * flush.settings.mtu) 32 packer out.old lengths.old
+) -> Told
+    requires { HasRoom (32 * flush.settings.mtu) 32 writer.old × WritesFor flush writer.old
         × Sendable flush words.now transmissions.old records.old n pool.now }
-    ensures { Walks flush (sent_in words.now transmissions.old records.old n)
-        words.now n pool.now packer out.old lengths.old
-        result transmissions.new records.new out.new lengths.new }
+    ensures same { Same writer.old writer.new }
+    ensures walks { Walks flush (sent_in words.now transmissions.old records.old n) words.now n pool.now
+        writer.old result transmissions.new records.new writer.new }
 {
-    let mut k = packer;
-    let mut dead = false;
-    let mut late = false;
-    let mut fast = false;
-    let mut sent = false;
-    let mut i: usize = 0;
-    while i < n {
-        let old = records[i];
+    let mut told = Told {
+        dead: false,
+        late: false,
+        fast: false,
+        sent: false,
+    };
+    for i in 0..n {
         let x = outstanding::transmission(
             flush.settings,
             flush.timeout,
             flush.t,
             transmissions[i],
-            old,
+            records[i],
         );
-        if x.sends {
-            let updated = x.updated;
-            transmissions[i] = x.transmissions;
-            records[i] = updated;
-            k = put_sent(k, flush, words[i], x, pool, out, lengths);
-            dead = dead | (x.transmissions == Protocol::DEAD_AFTER);
-            late = late | x.late;
-            fast = fast | x.fast;
-            sent = true;
-        }
-        i += 1;
+        let Some(cause) = x.cause else {
+            continue;
+        };
+        transmissions[i] = x.transmissions;
+        records[i] = x.updated;
+        put_sent(writer, flush, words[i], x, pool);
+        told = Told {
+            dead: told.dead | (x.transmissions == Protocol::DEAD_AFTER),
+            late: told.late | (cause == Cause::Late),
+            fast: told.fast | (cause == Cause::Fast),
+            sent: true,
+        };
     }
-    Walked {
-        packer: k,
-        dead,
-        late,
-        fast,
-        sent,
-    }
+    told
 }

@@ -8,6 +8,7 @@ use crate::number::Number;
 use protocol::Protocol;
 
 // The header's first 8 bytes.
+#[tactic(auto, using(crate::specs::HeaderLaws::front_stored))]
 fn put_front(out: &mut [u8], at: usize, h: Header)
     requires { at + 8 ≤ length out.old }
     ensures { out.new ≡ sets out.old at (front h) }
@@ -19,6 +20,7 @@ fn put_front(out: &mut [u8], at: usize, h: Header)
 }
 
 // The header's last 16 bytes.
+#[tactic(auto, using(crate::specs::HeaderLaws::back_stored))]
 fn put_back(out: &mut [u8], at: usize, h: Header)
     requires { at + 16 ≤ length out.old }
     ensures { out.new ≡ sets out.old at (back h) }
@@ -30,6 +32,7 @@ fn put_back(out: &mut [u8], at: usize, h: Header)
 }
 
 // The header at `at`, where there is room for it.
+#[tactic(auto, using(crate::specs::HeaderLaws::encode_stored))]
 fn put_header(out: &mut [u8], at: usize, h: Header)
     requires { at + 24 ≤ length out.old }
     ensures { out.new ≡ sets out.old at (encode h) }
@@ -50,6 +53,7 @@ pub fn write_header(out: &mut [u8], at: usize, h: Header) -> bool
 }
 
 // The header that the 24 bytes from `at` on are.
+#[tactic(auto, unfolding(crate::specs::Headers::decode))]
 fn read_header(s: &[u8], at: usize) -> Header
     requires { at + 24 ≤ length s.now }
     ensures { result ≡ decode s.now at }
@@ -67,6 +71,7 @@ fn read_header(s: &[u8], at: usize) -> Header
 }
 
 // The header at `at`, where 24 bytes stand there.
+#[tactic(auto, unfolding(crate::specs::Headers::header_at))]
 pub fn find_header(s: &[u8], at: usize) -> Option<Header>
     ensures { result ≡ header_at s.now at }
 {

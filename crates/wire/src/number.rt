@@ -25,10 +25,12 @@ impl Number for u8 {
 
     ghost value = { λ x. x };
 
+    #[tactic(auto, unfolding(crate::specs::LittleEndian::bytes_of))]
     fn put(self, out: &mut [u8], at: usize) {
         out[at] = self;
     }
 
+    #[tactic(auto, unfolding(crate::specs::LittleEndian::number_at))]
     fn read(s: &[u8], at: usize) -> u8 {
         s[at]
     }

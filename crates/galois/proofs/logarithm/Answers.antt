@@ -6,4 +6,4 @@ use Rattle.galois.proofs.logarithm.Goals as goal
 
 pub returns : goal.returns
 unfolding logs
-returns c = rw (c.wide.ensures, c.wide-i.ensures) (log_entry c.args.a (search rules))
+returns c = rw (c.from-2.ensures, c.from.ensures) (log_entry c.args.a (search rules))

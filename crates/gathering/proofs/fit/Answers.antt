@@ -1,43 +1,51 @@
 -- Each turn passes over one record more.
-use Rattle.std.proofs.Common.{◌≤◌, ◌<◌, ◌%◌, ◌^◌, length, get_or, take, refl, sym, ap, ◌∙◌, arith}
+use Rattle.std.proofs.Common.{◌<◌, ◌^◌, length, take, sym, ap, ◌∙◌, arith}
 use Rattle.protocol.specs.Protocol.{send_slots}
-use Rattle.records.specs.Tables.{slots_in, gathered}
-use Rattle.records.proofs.Turns.{slots_counted, slot_listed}
-use Rattle.checking.specs.Tests.{flight_fits, flown_by}
+use Rattle.records.specs.Tables.{slots_in, gathered, blank}
+use Rattle.checking.specs.Tests.{least_after, flight_fits, flown_by}
 use Rattle.checking.specs.FlownLaws.{flown_fits}
-use Rattle.gathering.specs.Reach.{reach}
+use Rattle.checking.proofs.Turns.{least_next, least_none, least_end}
 use Rattle.gathering.proofs.Listed.{reached}
-use Rattle.gathering.proofs.Passes.{passes_more, passes_all_lem, first_padded}
+use Rattle.gathering.proofs.Passes.{found_count, found_at, first_padded}
 use Rattle.gathering.proofs.fit.Goals as goal
 
-pub loop-i-preserved : goal.loop-i-preserved
-loop-i-preserved c =
+pub loop-word-preserved : goal.loop-word-preserved
+loop-word-preserved c =
+    let f = c.args.flight in
     let ys = c.args.table.now in
-    let ws = c.args.words.now in
-    let m = c.args.flight.outstanding in
-    let i = c.loop-i.i in
+    let i = c.loop-word.word-index in
     let room : length ys < 2 ^ 64 = omega arith in
-    let counted = slots_counted ws m c.looked_at-count.result c.told-words c.looked_at-count.ensures.0 in
-    let within : i < length (slots_in ws m) = omega arith in
-    let word = get_or ws i 0 in
-    let left = passes_more c.args.settings.mode c.args.flight.una c.args.flight.next (take send_slots ys) (slots_in ws m) i (word % 256)
-    c.loop-i.least c.next_least-next.result _ c.read-found.result within c.loop-i.invariant.left
-    (slot_listed ws m i (word % 256) refl within)
-    (reached ys word c.reach-slot.result c.read-found.result room (c.reach-slot.ensures ∙ ap reach c.word_at-word.ensures)
-    c.read-found.ensures) c.next_least-next.ensures in
-    record { within = omega arith; left = left }
+    let counted = found_count (take send_slots ys) c.args.words.now f.outstanding c.min.result c.min.ensures in
+    let at = found_at (take send_slots ys) c.args.words.now f.outstanding c.min.result c.min.ensures i c.read-found.result c.loop-word-test.true
+    (reached ys _ c.reach.result _ room c.reach.ensures c.read-found.ensures) in
+    least_next c.args.settings.mode f.una f.next (gathered (take send_slots ys) (slots_in c.args.words.now f.outstanding)) i _ _ blank
+    (omega arith) c.loop-word.invariant _ (c.in-Some.ensures ∙ ap (least_after c.args.settings.mode f.una f.next c.loop-word.least) at)
+
+pub returns-in_default : goal.returns-in_default
+returns-in_default c =
+    let f = c.args.flight in
+    let mode = c.args.settings.mode in
+    let ws = c.args.words.now in
+    let ys = take send_slots c.args.table.now in
+    let found = gathered ys (slots_in ws f.outstanding) in
+    let i = c.loop-word.word-index in
+    let room : length c.args.table.now < 2 ^ 64 = omega arith in
+    let counted = found_count ys ws f.outstanding c.min.result c.min.ensures in
+    let at = found_at ys ws f.outstanding c.min.result c.min.ensures i c.read-found.result c.loop-word-test.true
+    (reached c.args.table.now _ c.reach.result _ room c.reach.ensures c.read-found.ensures) in
+    let none = least_none mode f.una f.next found i c.loop-word.least _ blank (omega arith) c.loop-word.invariant
+    (c.in_default.ensures ∙ ap (least_after mode f.una f.next c.loop-word.least) at) in
+    ap (flown_by f.una f.next) (sym none) ∙ flown_fits mode f.una f.next found
+    ∙ ap (flight_fits mode f.una f.next) (sym (first_padded ys ws f.outstanding c.told-words))
 
 pub returns : goal.returns
 returns c =
-    let ys = take send_slots c.args.table.now in
-    let ws = c.args.words.now in
-    let m = c.args.flight.outstanding in
+    let f = c.args.flight in
     let mode = c.args.settings.mode in
-    let una = c.args.flight.una in
-    let next = c.args.flight.next in
-    let slots = slots_in ws m in
-    let counted = slots_counted ws m c.looked_at-count.result c.told-words c.looked_at-count.ensures.0 in
-    let past : length slots ≤ c.loop-i.i = omega arith in
-    let all = passes_all_lem mode una next ys slots c.loop-i.i c.loop-i.least _ past c.loop-i.invariant.left in
-    c.flown.ensures ∙ ap (flown_by una next) (sym all) ∙ flown_fits mode una next (gathered ys slots)
-    ∙ ap (flight_fits mode una next) (sym (first_padded ys ws m c.told-words))
+    let ws = c.args.words.now in
+    let ys = take send_slots c.args.table.now in
+    let found = gathered ys (slots_in ws f.outstanding) in
+    let counted = found_count ys ws f.outstanding c.min.result c.min.ensures in
+    let all = least_end mode f.una f.next found c.loop-word.word-index c.loop-word.least _ (omega arith) c.loop-word.invariant in
+    c.flown.ensures ∙ ap (flown_by f.una f.next) (sym all) ∙ flown_fits mode f.una f.next found
+    ∙ ap (flight_fits mode f.una f.next) (sym (first_padded ys ws f.outstanding c.told-words))

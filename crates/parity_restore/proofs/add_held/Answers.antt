@@ -1,20 +1,14 @@
 -- `parity_restore::add_held` meets its contract: the part of the frames that the place names.
-use mathlib.Core.Path.{◌≡◌}
-use Prim.Native.Nat.{ℕ, ◌+◌, ◌-◌}
-use native.Mathlib.Omega.{arith}
-use lib.ListN.{get_or}
-use Rattle.frames.specs.WeightLaws.{added_from_0}
-use Rattle.parity_scan.specs.Held.{shard_in}
+use Rattle.std.proofs.Common.{◌<◌, length, arith}
+use Rattle.parity_restore.specs.RestoreLaws.{held_added, none_added}
 use Rattle.parity_restore.proofs.add_held.Goals as goal
 
--- a part from `a` to `a + n` has n bytes
-span : (a n : ℕ) → a + n - a ≡ n
-span a n = omega arith
+pub returns-in-Some : goal.returns-in-Some
+returns-in-Some c =
+    let l : c.args.p < length c.args.held.now = omega (arith, c.told-held) in
+    held_added _ _ _ _ _ l c.in-Some.shard _ c.in-Some.is c.add.ensures
 
-pub returns : goal.returns
-unfolding shard_in
-returns c = added_from_0 c.args.row.now _ _
-    (rw (span (get_or c.args.h.at
-    c.args.p 0)
-    (get_or c.args.h.size
-    c.args.p 0)) at c.add.ensures)
+pub returns-in_default : goal.returns-in_default
+returns-in_default c =
+    let l : c.args.p < length c.args.held.now = omega (arith, c.told-held) in
+    none_added _ _ _ _ _ l c.in_default.is

@@ -1,35 +1,19 @@
 -- `parity_restore::restore` meets its contract: none lost, one, or two.
-use mathlib.Core.Path.{◌≡◌, sym, ◌∙◌, subst}
-use Prim.Native.Nat.{ℕ, ◌<◌}
-use borrow.Author.Rules.{rules}
-use Rattle.parity_scan.specs.Held.{sized}
-use Rattle.parity_restore.specs.RestoreLaws.{other_lt, other_apart}
+use Rattle.std.proofs.Common.{◌<◌, ℕ, sym, ap, ◌∙◌, subst}
+use Rattle.parity_restore.specs.Restored.{place}
+use Rattle.parity_restore.specs.RestoreLaws.{lost_some, other_lt, other_apart}
 use Rattle.parity_restore.proofs.restore.Goals as goal
 
 pub solve_two-requires : goal.solve_two-requires
 solve_two-requires c =
-    let d : c.args.i ≡ 12 → ⊥ = c.if-i-eq12.false in
-    let e : c.args.j ≡ 12 → ⊥ = c.if-j-eq12.false in
-    let i : c.args.i < 10 =
-    subst (λ (n : ℕ). n < 10) (sym c.requires.4)
-    (other_lt (sized c.args.h) 12
-    c.args.k (search rules)
-    (λ q. d (c.requires.4 ∙ q))) in
-    let j : c.args.j < 10 =
-    subst (λ (n : ℕ). n < 10) (sym c.requires.5)
-    (other_lt (sized c.args.h)
-    c.args.i
-    c.args.k (search rules)
-    (λ q. e (c.requires.5 ∙ q))) in (
-      search rules,
-      c.requires.1,
-      c.requires.2,
-      c.requires.3,
-      i,
-      j,
-      λ q. other_apart (sized c.args.h)
-          c.args.i
-          c.args.k
-          (λ r. e (c.requires.5 ∙ r))
-          (sym c.requires.5 ∙ sym q),
+    let r = c.requires in
+    let i = lost_some _ _ (sym c.in-Some-Some.is-0 ∙ r.4) in
+    let j = lost_some _ _ (sym c.in-Some-Some.is-1 ∙ r.5) in (
+      r.0,
+      r.1,
+      r.2,
+      r.3,
+      subst (λ (n : ℕ). n < 10) (sym i.0) (other_lt _ _ _ r.0 i.1),
+      subst (λ (n : ℕ). n < 10) (sym j.0) (other_lt _ _ _ r.0 j.1),
+      λ q. other_apart _ _ _ j.1 (sym j.0 ∙ sym q ∙ sym (ap place c.in-Some-Some.is-0)),
     )

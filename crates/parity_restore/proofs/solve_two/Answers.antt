@@ -10,14 +10,14 @@ use Rattle.parity_restore.proofs.solve_two.Goals as goal
 pub returns-clause-first : goal.returns-clause-first
 returns-clause-first c =
     let b = row_sized (rest 0 c.args.k (shard_in c.args.s.now
-    c.args.h))
+    c.args.held.now))
     (length c.args.b.now)
     (length c.args.a.now) _
     c.requires.3
     c.rest_row-2.ensures in
     let f = both_first c.args.k
     (shard_in c.args.s.now
-    c.args.h)
+    c.args.held.now)
     c.args.i
     c.args.j
     (length c.args.a.now)
@@ -37,14 +37,14 @@ returns-clause-first c =
 pub returns-clause-second : goal.returns-clause-second
 returns-clause-second c =
     let b = row_sized (rest 0 c.args.k (shard_in c.args.s.now
-    c.args.h))
+    c.args.held.now))
     (length c.args.b.now)
     (length c.args.a.now) _
     c.requires.3
     c.rest_row-2.ensures in
     let f = both_first c.args.k
     (shard_in c.args.s.now
-    c.args.h)
+    c.args.held.now)
     c.args.i
     c.args.j
     (length c.args.a.now)
@@ -61,7 +61,7 @@ returns-clause-second c =
     c.add_multiple.ensures
     c.multiply.ensures in
     both_second c.args.k
-    (shard_in c.args.s.now c.args.h)
+    (shard_in c.args.s.now c.args.held.now)
     c.args.i
     c.args.j
     (length c.args.a.now)
@@ -76,5 +76,5 @@ returns-clause-second c =
     c.inverse-d.ensures _ _ _
     (rest_small c.args.k
     c.args.s.now
-    c.args.h
+    c.args.held.now
     (λ i. omega (arith, c.type_inv.s i))) b f c.add-2.ensures

@@ -1,181 +1,52 @@
 -- `parity_writer::write_group` meets its contract: its tests in turn, and the group.
-use mathlib.Core.Path.{sym, ap, ap₂, ◌∙◌}
-use mathlib.Core.Bool.{Bool, ◌&&◌}
-use Prim.Native.Nat.{ℕ, ◌+◌, ◌*◌}
-use lib.Dec.{eqb}
-use lib.ListN.{length}
-use Rattle.frames.specs.Lists.{parts}
-use Rattle.frames.specs.Frames.{group}
-use Rattle.frames.specs.Outcomes.{settings_ok, lent_ok, lengths_ok, write_of}
-use Rattle.frames.specs.declared.Refusal.TheVariants.{ShortPart, SettingOutOfRange, NotAGroup, LateGroup}
-use Rattle.frames.specs.OutcomeLaws.{refusing, writing}
-use Rattle.parity_writer.specs.CallLaws.{write_7, write_12, write_21, write_23, write_all, group_count, fits_all}
+use Rattle.std.proofs.Common.{ℕ, ◌+◌, ap, ◌∙◌}
+use Rattle.std.proofs.lemmas.Result.{err_from_is_err_and}
+use Rattle.frames.specs.OutcomeLaws.{refusing, refusing_on, writing}
+use Rattle.parity_writer.specs.CallLaws.{right, wrong_count, wrong_lengths, write_7, write_12, write_21, write_23, write_all, group_count, fits_all}
+use Rattle.parity_writer.proofs.write_group.Goals.{then-lengths-shape-via-then-lengths-shape, then-lengths-shape-via-else-lengths-shape+then-not-lengths_ok}
 use Rattle.parity_writer.proofs.write_group.Goals as goal
+
+pub returns-in_err-datagrams : goal.returns-in_err-datagrams
+returns-in_err-datagrams c =
+    let e = c.in_err-datagrams.ensures in
+    let p = err_from_is_err_and c.from_residual.result c.from_residual.ensures.1 in
+    refusing_on _ _ _ _ _ _ (write_7 _ _ _ _ _ _ _ e.0) (p.2 ∙ e.1) p.1
+
+pub returns-in_err-shape : goal.returns-in_err-shape
+returns-in_err-shape c =
+    let e = c.in_err-shape.ensures in
+    let p = err_from_is_err_and c.from_residual-in_err-shape.result c.from_residual-in_err-shape.ensures.1 in
+    refusing_on _ _ _ _ _ _ (write_12 _ _ _ _ _ _ _ c.in_ok-datagrams.ensures.0 e.0) (p.2 ∙ e.1) p.1
+
+pub returns-then-lengths-shape : goal.returns-then-lengths-shape
+returns-then-lengths-shape c =
+    let s = c.in_ok-shape.ensures in
+    refusing _ _ _ _ (write_21 _ _ _ _ _ _ _ c.in_ok-datagrams.ensures.0 s.0 (elim c.then-lengths-shape.branch [
+      | then-lengths-shape-via-then-lengths-shape w ↦ wrong_count _ _ _ _ _ s.1 s.2 w.if-lengths-shape.true
+      | then-lengths-shape-via-else-lengths-shape+then-not-lengths_ok w ↦
+          wrong_lengths _ _ _ _ _ s.1 s.2 w.if-lengths-shape.false w.if-not-lengths_ok.ensures
+    ]))
+
+pub returns-then-start-ge-GROUPS_END : goal.returns-then-start-ge-GROUPS_END
+returns-then-start-ge-GROUPS_END c =
+    let s = c.in_ok-shape.ensures in
+    let r = right _ _ _ _ _ s.1 s.2 c.if-lengths-shape.false c.if-not-lengths_ok.ensures in
+    refusing _ _ _ _ (write_23 _ _ _ _ _ _ _ c.in_ok-datagrams.ensures.0 s.0 r (rw (← c.from.ensures, ← c.from-2.ensures) c.if-start-ge-GROUPS_END.true))
 
 pub put_group-requires : goal.put_group-requires
 put_group-requires c =
-    fits_all c.args.group c.args.k
-    c.args.mtu c.args.datagrams.now
-    c.args.lengths.now (length
-    c.args.out.now) (length
-    c.args.out_lengths.now)
-    (c.args.group * (c.args.k + 2)) c.if-start-lt-GROUPS_END.true
-    (ap (λ (m : ℕ). lent_ok (length c.args.datagrams.now)
-    c.args.lengths.now 12 (m + 8)
-    (length c.args.out.now)
-    (length c.args.out_lengths.now))
-    (sym c.wide-each.ensures) ∙ sym
-    c.lent_ok-lent.ensures ∙ c.if-lent.true)
-    (ap₂ settings_ok (sym c.wide.ensures)
-    (sym c.wide-then-lent.ensures) ∙ sym
-    c.settings_ok-settings.ensures ∙ c.if-settings.true)
-    (ap₂ (λ (m n : ℕ). eqb (length c.args.lengths.now) m
-    && lengths_ok n c.args.lengths.now) (sym c.wide-then-settings.ensures)
-    (sym c.wide-then-settings-2.ensures) ∙ ap
-    (λ (b : Bool). eqb (length c.args.lengths.now) c.wide-then-settings.result && b)
-    (sym c.lengths_ok.ensures) ∙ c.if-right.true)
+    let s = c.in_ok-shape.ensures in
+    let d = c.in_ok-datagrams.ensures in
+    let r = right _ _ _ _ _ s.1 s.2 c.if-lengths-shape.false c.if-not-lengths_ok.ensures in
+    rw (d.1, d.2) (fits_all c.args.group _ _ _ _ _ _ _ c.if-start-ge-GROUPS_END.false d.0 s.0 r)
 
-pub returns-then-start-lt-GROUPS_END : goal.returns-then-start-lt-GROUPS_END
-returns-then-start-lt-GROUPS_END c =
-    writing (write_of c.args.group
-    c.args.k
-    c.args.mtu
-    c.args.datagrams.now
-    c.args.lengths.now
-    (length c.args.out.now)
-    (length c.args.out_lengths.now))
-    (group (c.args.group *
-    (c.args.k + 2))
-    (parts c.args.datagrams.now
-    c.args.lengths.now)) (c.wide-then-start-lt-GROUPS_END.result + 2)
-    c.args.out.now
-    c.args.out_lengths.now _ _
-    (write_all c.args.group
-    c.args.k
-    c.args.mtu
-    c.args.datagrams.now
-    c.args.lengths.now
-    (length c.args.out.now)
-    (length c.args.out_lengths.now)
-    (ap (λ (m : ℕ). lent_ok (length c.args.datagrams.now)
-    c.args.lengths.now 12 (m + 8)
-    (length c.args.out.now)
-    (length c.args.out_lengths.now))
-    (sym c.wide-each.ensures) ∙ sym
-    c.lent_ok-lent.ensures ∙ c.if-lent.true)
-    (ap₂ settings_ok (sym c.wide.ensures) (sym c.wide-then-lent.ensures) ∙ sym
-    c.settings_ok-settings.ensures ∙ c.if-settings.true)
-    (ap₂ (λ (m n : ℕ). eqb (length c.args.lengths.now) m
-    && lengths_ok n c.args.lengths.now)
-    (sym c.wide-then-settings.ensures)
-    (sym c.wide-then-settings-2.ensures) ∙ ap
-    (λ (b : Bool). eqb (length c.args.lengths.now)
-    c.wide-then-settings.result && b)
-    (sym c.lengths_ok.ensures) ∙ c.if-right.true)
-    c.if-start-lt-GROUPS_END.true)
-    (ap (λ (m : ℕ). m + 2) c.wide-then-start-lt-GROUPS_END.ensures ∙ group_count
-    c.args.group
-    c.args.k
-    c.args.mtu
-    c.args.datagrams.now
-    c.args.lengths.now
-    (length c.args.out.now)
-    (length c.args.out_lengths.now)
-    (ap₂ (λ (m n : ℕ). eqb (length c.args.lengths.now) m
-    && lengths_ok n c.args.lengths.now)
-    (sym c.wide-then-settings.ensures)
-    (sym c.wide-then-settings-2.ensures) ∙ ap
-    (λ (b : Bool). eqb (length c.args.lengths.now)
-    c.wide-then-settings.result && b)
-    (sym c.lengths_ok.ensures) ∙ c.if-right.true))
-    c.put_group.ensures.bytes c.put_group.ensures.lengths
-
-pub returns-else-start-lt-GROUPS_END : goal.returns-else-start-lt-GROUPS_END
-returns-else-start-lt-GROUPS_END c =
-    refusing (write_of c.args.group c.args.k
-    c.args.mtu c.args.datagrams.now c.args.lengths.now
-    (length c.args.out.now) (length c.args.out_lengths.now)) LateGroup
-    c.args.out.now c.args.out_lengths.now
-    (write_23 c.args.group c.args.k c.args.mtu c.args.datagrams.now
-    c.args.lengths.now (length c.args.out.now)
-    (length c.args.out_lengths.now)
-    (ap (λ (m : ℕ). lent_ok (length c.args.datagrams.now)
-    c.args.lengths.now 12 (m + 8) (length c.args.out.now)
-    (length c.args.out_lengths.now)) (sym c.wide-each.ensures) ∙ sym c.lent_ok-lent.ensures ∙ c.if-lent.true)
-    (ap₂ settings_ok (sym c.wide.ensures)
-    (sym c.wide-then-lent.ensures) ∙ sym
-    c.settings_ok-settings.ensures ∙ c.if-settings.true)
-    (ap₂ (λ (m n : ℕ). eqb (length c.args.lengths.now) m
-    && lengths_ok n c.args.lengths.now) (sym c.wide-then-settings.ensures)
-    (sym c.wide-then-settings-2.ensures) ∙ ap
-    (λ (b : Bool). eqb (length c.args.lengths.now) c.wide-then-settings.result && b)
-    (sym c.lengths_ok.ensures) ∙ c.if-right.true)
-    c.if-start-lt-GROUPS_END.false)
-
-pub returns-else-right : goal.returns-else-right
-returns-else-right c =
-    refusing (write_of c.args.group c.args.k c.args.mtu c.args.datagrams.now
-    c.args.lengths.now (length c.args.out.now) (length
-    c.args.out_lengths.now)) NotAGroup c.args.out.now c.args.out_lengths.now
-    (write_21 c.args.group c.args.k c.args.mtu c.args.datagrams.now c.args.lengths.now (length
-    c.args.out.now) (length c.args.out_lengths.now)
-    (ap (λ (m : ℕ). lent_ok (length c.args.datagrams.now)
-    c.args.lengths.now 12 (m + 8) (length c.args.out.now)
-    (length c.args.out_lengths.now)) (sym c.wide-each.ensures) ∙ sym
-    c.lent_ok-lent.ensures ∙ c.if-lent.true)
-    (ap₂ settings_ok (sym c.wide.ensures)
-    (sym c.wide-then-lent.ensures) ∙ sym
-    c.settings_ok-settings.ensures ∙ c.if-settings.true)
-    (ap₂ (λ (m n : ℕ). eqb (length c.args.lengths.now) m
-    && lengths_ok n c.args.lengths.now) (sym c.wide-then-settings.ensures) (sym c.wide-then-settings-2.ensures) ∙ ap
-    (λ (b : Bool). eqb (length c.args.lengths.now) c.wide-then-settings.result && b) (sym c.lengths_ok.ensures) ∙ c.if-right.false))
-
-pub returns-else-settings : goal.returns-else-settings
-returns-else-settings c =
-    refusing (write_of c.args.group
-    c.args.k
-    c.args.mtu
-    c.args.datagrams.now
-    c.args.lengths.now
-    (length c.args.out.now)
-    (length c.args.out_lengths.now))
-    SettingOutOfRange c.args.out.now
-    c.args.out_lengths.now
-    (write_12 c.args.group
-    c.args.k
-    c.args.mtu
-    c.args.datagrams.now
-    c.args.lengths.now
-    (length c.args.out.now)
-    (length c.args.out_lengths.now)
-    (ap (λ (m : ℕ). lent_ok (length c.args.datagrams.now) c.args.lengths.now 12
-    (m + 8) (length c.args.out.now)
-    (length c.args.out_lengths.now))
-    (sym c.wide-each.ensures) ∙ sym
-    c.lent_ok-lent.ensures ∙ c.if-lent.true)
-    (ap₂ settings_ok (sym c.wide.ensures) (sym c.wide-then-lent.ensures) ∙ sym
-    c.settings_ok-settings.ensures ∙ c.if-settings.false))
-
-pub returns-else-lent : goal.returns-else-lent
-returns-else-lent c =
-    refusing (write_of c.args.group
-    c.args.k
-    c.args.mtu
-    c.args.datagrams.now
-    c.args.lengths.now
-    (length c.args.out.now)
-    (length c.args.out_lengths.now)) ShortPart
-    c.args.out.now
-    c.args.out_lengths.now
-    (write_7 c.args.group
-    c.args.k
-    c.args.mtu
-    c.args.datagrams.now
-    c.args.lengths.now
-    (length c.args.out.now)
-    (length c.args.out_lengths.now)
-    (ap (λ (m : ℕ). lent_ok (length c.args.datagrams.now)
-    c.args.lengths.now 12 (m + 8)
-    (length c.args.out.now)
-    (length c.args.out_lengths.now))
-    (sym c.wide-each.ensures) ∙ sym c.lent_ok-lent.ensures ∙ c.if-lent.false))
+pub returns : goal.returns
+returns c =
+    let s = c.in_ok-shape.ensures in
+    let d = c.in_ok-datagrams.ensures in
+    let r = right _ _ _ _ _ s.1 s.2 c.if-lengths-shape.false c.if-not-lengths_ok.ensures in
+    writing _ _ _ _ _ _ _
+    (write_all _ _ _ _ _ _ _ d.0 s.0 r (rw (← c.from.ensures, ← c.from-2.ensures) c.if-start-ge-GROUPS_END.false))
+    (ap (λ (n : ℕ). n + 2) s.1 ∙ group_count _ _ _ _ _ 0 0 r)
+    (rw (d.1, d.2, c.from.ensures, c.from-2.ensures) at c.put_group.ensures.bytes)
+    (rw (d.1, d.2, c.from.ensures, c.from-2.ensures) at c.put_group.ensures.lengths)

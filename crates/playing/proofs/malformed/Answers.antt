@@ -1,8 +1,6 @@
 -- `playing::malformed` meets its contract.
 use mathlib.Core.Path.{refl}
-use Rattle.notation.specs.Ascii.{ascii}
 use Rattle.playing.proofs.malformed.Goals as goal
 
 pub returns : goal.returns
-unfolding ascii
 returns c = record { bench = refl; answer = c.bytes-len.ensures }

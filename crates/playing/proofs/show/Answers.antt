@@ -1,10 +1,8 @@
 -- `playing::show` meets its contract.
 use mathlib.Core.Path.{refl}
-use Rattle.notation.specs.Ascii.{ascii}
 use Rattle.playing.proofs.show.Goals as goal
 
 pub returns : goal.returns
-unfolding ascii
 returns c = record {
   part = c.show-part.result.now;
   promise = c.show-part.ensures;

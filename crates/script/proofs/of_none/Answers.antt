@@ -1,32 +1,27 @@
 -- `script::of_none` meets its contract, name by name.
-use borrow.Author.Tests.{ne_eqb}
-use Rattle.notation.specs.Ascii.{ascii}
-use native.Mathlib.Omega.{arith}
-use Rattle.std.proofs.Common.{◌≢◌}
+use Rattle.script.specs.declared.names.Name.TheVariants.{Size, Show, State, Held}
 use Rattle.script.specs.Commands.{letters, of_none}
+use Rattle.script.specs.NameLaws.{other}
 use Rattle.script.proofs.of_none.Goals as goal
 
-pub returns-in-6231259749 : goal.returns-in-6231259749
-unfolding of_none letters ascii
-returns-in-6231259749 c = rw c.in-6231259749.is
+pub returns-in-Size : goal.returns-in-Size
+unfolding of_none letters
+returns-in-Size c = rw (c.in-Size.is)
 
-pub returns-in-6231191415 : goal.returns-in-6231191415
-unfolding of_none letters ascii
-returns-in-6231191415 c = rw c.in-6231191415.is
+pub returns-in-Show : goal.returns-in-Show
+unfolding of_none letters
+returns-in-Show c = rw (c.in-Show.is)
 
-pub returns-in-1595385410661 : goal.returns-in-1595385410661
-unfolding of_none letters ascii
-returns-in-1595385410661 c = rw c.in-1595385410661.is
+pub returns-in-State : goal.returns-in-State
+unfolding of_none letters
+returns-in-State c = rw (c.in-State.is)
 
-pub returns-in-6046444644 : goal.returns-in-6046444644
-unfolding of_none letters ascii
-returns-in-6046444644 c = rw c.in-6046444644.is
+pub returns-in-Held : goal.returns-in-Held
+unfolding of_none letters
+returns-in-Held c = rw (c.in-Held.is)
 
 pub returns-in_default : goal.returns-in_default
-unfolding of_none letters ascii
+unfolding of_none
 returns-in_default c =
-    let a : c.args.name ≢ 6231259749 = omega arith in
-    let b : c.args.name ≢ 6231191415 = omega arith in
-    let d : c.args.name ≢ 1595385410661 = omega arith in
-    let e : c.args.name ≢ 6046444644 = omega arith in
-    rw (ne_eqb _ _ a, ne_eqb _ _ b, ne_eqb _ _ d, ne_eqb _ _ e)
+    let x = c.in_default in
+    rw (other _ Size x.not-Size, other _ Show x.not-Show, other _ State x.not-State, other _ Held x.not-Held)

@@ -1,57 +1,37 @@
 -- `script::parse` meets its contract: the first word is the name, and what is behind it is bytes or numbers.
-use mathlib.Core.Path.{◌≡◌, ap, ◌∙◌}
-use Prim.Native.Nat.{ℕ}
-use native.Mathlib.Omega.{arith}
-use borrow.Author.Tests.{lt-ltb, le-ltb}
-use lib.ListN.{length, take, drop}
-use Rattle.notation.specs.Ascii.{ascii}
-use Rattle.script.specs.Commands.{word, arguments, numbers_of, letters, name_of, command_of, bytes_left}
-use Rattle.script.specs.CommandLaws.{word_front, few_enough}
+use Rattle.std.proofs.Common.{◌∙◌, sym, arith}
+use Rattle.script.specs.declared.Command.TheVariants as command
+use Rattle.script.specs.Commands.{word}
+use Rattle.script.specs.ParsedLaws.{mapped, parsed_long, parsed_unnamed, parsed_numbers, parsed_send, parsed_input}
+use Rattle.script.specs.NameLaws.{unnamed, bytes_each, bytes_front}
 use Rattle.script.proofs.parse.Goals as goal
 
 pub returns-then-line-gt-LINE_MOST : goal.returns-then-line-gt-LINE_MOST
-unfolding command_of bytes_left
-returns-then-line-gt-LINE_MOST c = record { command = rw (lt-ltb _ _ c.if-line-gt-LINE_MOST.true); bytes = rw (lt-ltb _ _ c.if-line-gt-LINE_MOST.true) }
+returns-then-line-gt-LINE_MOST c = parsed_long _ _ c.if-line-gt-LINE_MOST.true
 
-pub returns-then-name : goal.returns-then-name
-unfolding command_of bytes_left letters ascii
-returns-then-name c =
+pub returns-in_err-name : goal.returns-in_err-name
+returns-in_err-name c =
     let line = c.args.line.now in
-    let end : c.word_end-end.result ≡ length (word line) =
-    omega (arith, c.word_end-end.ensures.0) in
-    let name : c.name-name.result ≡ name_of (word line) =
-    c.name-name.ensures ∙ ap name_of (ap (λ (k : ℕ). take k line) end ∙ word_front line) in
-    record {
-      command = rw (
-        le-ltb _ _ c.if-line-gt-LINE_MOST.false,
-        ← name,
-        c.if-name.true,
-        ← end,
-      ) c.of_bytes.ensures.0;
-      bytes = rw (
-        le-ltb _ _ c.if-line-gt-LINE_MOST.false,
-        ← name,
-        c.if-name.true,
-        ← end,
-      ) c.of_bytes.ensures.1;
-    }
+    let bytes = bytes_front 32 line (bytes_each line (λ i. omega (arith, c.type_inv.line i))) in
+    let none = unnamed (word line) bytes (rw c.split_before.ensures.0 at c.in_err-name.ensures) in
+    rw c.from_residual.ensures (parsed_unnamed _ _ c.if-line-gt-LINE_MOST.false none)
 
-pub returns : goal.returns
-unfolding command_of bytes_left letters ascii
-returns c =
-    let line = c.args.line.now in
-    let end : c.word_end-end.result ≡ length (word line) =
-    omega (arith, c.word_end-end.ensures.0) in
-    let name : c.name-name.result ≡ name_of (word line) =
-    c.name-name.ensures ∙ ap name_of (ap (λ (k : ℕ). take k line) end ∙ word_front line) in
-    record {
-      command = rw (
-        le-ltb _ _ c.if-line-gt-LINE_MOST.false,
-        ← name,
-        c.if-name.false,
-        ← end,
-      ) (c.of_numbers.ensures ∙ rw c.behind.ensures
-          (few_enough c.name-name.result
-          (numbers_of (arguments (drop c.word_end-end.result line)))));
-      bytes = rw (le-ltb _ _ c.if-line-gt-LINE_MOST.false, ← name, c.if-name.false);
-    }
+pub returns-in-Send : goal.returns-in-Send
+returns-in-Send c =
+    let word = sym c.split_before.ensures.0 ∙ c.in_ok-name.ensures in
+    let read = parsed_send _ _ c.if-line-gt-LINE_MOST.false _ _ (rw c.in-Send.is at word)
+    (rw c.split_before.ensures.1 at c.bytes_behind.ensures) in
+    rw (mapped command.Send c.bytes_behind.result c.map.result c.map.ensures.cases) read
+
+pub returns-in-Input : goal.returns-in-Input
+returns-in-Input c =
+    let word = sym c.split_before.ensures.0 ∙ c.in_ok-name.ensures in
+    let read = parsed_input _ _ c.if-line-gt-LINE_MOST.false _ _ (rw c.in-Input.is at word)
+    (rw c.split_before.ensures.1 at c.bytes_behind-in-Input.ensures) in
+    rw (mapped command.Input c.bytes_behind-in-Input.result c.map-in-Input.result c.map-in-Input.ensures.cases) read
+
+pub returns-in_default : goal.returns-in_default
+returns-in_default c =
+    let word = sym c.split_before.ensures.0 ∙ c.in_ok-name.ensures in
+    parsed_numbers _ _ c.if-line-gt-LINE_MOST.false _ _ word c.in_default.not-Send c.in_default.not-Input
+    (rw c.split_before.ensures.1 at c.with_numbers.ensures)

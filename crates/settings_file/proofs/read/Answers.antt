@@ -1,27 +1,21 @@
 -- `settings_file::read` meets its contract: the tests decide in turn.
-use mathlib.Core.Path.{sym, ◌∙◌}
-use native.Mathlib.Omega.{arith}
+use Rattle.std.proofs.Common.{sym, ◌∙◌, arith}
 use Rattle.settings_file.specs.FileLaws.{short_file, no_magic, other_version, of_first, of_second}
 use Rattle.settings_file.proofs.read.Goals as goal
-
-pub returns-then-version-eq-FIRST : goal.returns-then-version-eq-FIRST
-returns-then-version-eq-FIRST c =
-    let magic = sym c.has_magic.ensures ∙ c.if-has_magic.true in
-    c.read_first.ensures ∙ of_first _ (omega arith) magic (sym c.read-version.ensures ∙ c.if-version-eq-FIRST.true)
-
-pub returns-then-version-eq-SECOND : goal.returns-then-version-eq-SECOND
-returns-then-version-eq-SECOND c =
-    let magic = sym c.has_magic.ensures ∙ c.if-has_magic.true in
-    c.read_second.ensures ∙ of_second _ (omega arith) magic (sym c.read-version.ensures ∙ c.if-version-eq-SECOND.true)
-
-pub returns-then-has_magic : goal.returns-then-has_magic
-returns-then-has_magic c =
-    other_version _ (omega arith) (sym c.has_magic.ensures ∙ c.if-has_magic.true)
-    (λ e. c.if-version-eq-FIRST.false (c.read-version.ensures ∙ e))
-    (λ e. c.if-version-eq-SECOND.false (c.read-version.ensures ∙ e))
-
-pub returns : goal.returns
-returns c = no_magic _ (omega arith) (sym c.has_magic.ensures ∙ c.if-has_magic.false)
+use Rattle.settings_file.proofs.read.Goals.{then-file-lt-FRONT-via-then-file-lt-FRONT, then-file-lt-FRONT-via-else-file-lt-FRONT+then-not-has_magic}
 
 pub returns-then-file-lt-FRONT : goal.returns-then-file-lt-FRONT
-returns-then-file-lt-FRONT c = short_file _ (omega arith)
+returns-then-file-lt-FRONT c =
+    elim c.then-file-lt-FRONT.branch [
+      | then-file-lt-FRONT-via-then-file-lt-FRONT w ↦ short_file _ (omega arith)
+      | then-file-lt-FRONT-via-else-file-lt-FRONT+then-not-has_magic w ↦ no_magic _ (cc)
+    ]
+
+pub returns-in-1 : goal.returns-in-1
+returns-in-1 c = c.read_first.ensures ∙ of_first _ (omega arith) (cc) (sym c.read.ensures ∙ c.in-1.is)
+
+pub returns-in-2 : goal.returns-in-2
+returns-in-2 c = c.read_second.ensures ∙ of_second _ (omega arith) (cc) (sym c.read.ensures ∙ c.in-2.is)
+
+pub returns-in_default : goal.returns-in_default
+returns-in_default c = other_version _ (omega arith) (cc) (λ e. omega (arith, e)) (λ e. omega (arith, e))

@@ -1,16 +1,7 @@
 -- `tag_entry::put_entry` meets its contract: the value stands behind the name.
-use native.Mathlib.Omega.{arith}
 use Rattle.tag_message.specs.MessageLaws.{tag_lengths}
 use Rattle.tag_entry.specs.EntryLaws.{entry_stored}
 use Rattle.tag_entry.proofs.put_entry.Goals as goal
 
-pub put_padded-requires : goal.put_padded-requires
-put_padded-requires c = omega (arith, tag_lengths _ _ c.requires.0)
-
-pub put_padded-requires-2 : goal.put_padded-requires-2
-put_padded-requires-2 c = omega (arith, c.put_padded.auto.out, tag_lengths _ _ c.requires.0)
-
 pub returns : goal.returns
-returns c =
-    entry_stored _ _ _ _ (tag_lengths _ _ c.requires.0).most c.put_padded.ensures
-    c.put_padded-2.ensures
+returns c = entry_stored _ _ _ _ (tag_lengths _ _ c.requires.0).most c.put_padded.ensures c.put_padded-2.ensures

@@ -1,16 +1,10 @@
--- `tag_find::ask` meets its contract: what is shown is the part that was found.
-use native.Mathlib.Omega.{arith}
+-- `tag_find::ask` meets its contract: what is found lies in its table.
+use Rattle.std.proofs.Common.{arith}
 use Rattle.tag_find.specs.FindingLaws as finding
 use Rattle.tag_find.proofs.ask.Goals as goal
 
-pub overflow_add-end : goal.overflow_add-end
-overflow_add-end c = omega (arith, finding.in_own_table _ _ _ _ c.find.ensures _ c.in-Own.is)
+pub of-requires : goal.of-requires
+of-requires c = omega (arith, finding.in_own_table _ _ _ _ c.find.ensures c.in-Ok-Some-Own.part (cc))
 
-pub slice_bounds-result-end : goal.slice_bounds-result-end
-slice_bounds-result-end c = omega (arith, finding.in_own_table _ _ _ _ c.find.ensures _ c.in-Own.is)
-
-pub overflow_add-end-in-Defaults : goal.overflow_add-end-in-Defaults
-overflow_add-end-in-Defaults c = omega (arith, finding.in_defaults_table _ _ _ _ c.find.ensures _ c.in-Defaults.is)
-
-pub slice_bounds-result-end-in-Defaults : goal.slice_bounds-result-end-in-Defaults
-slice_bounds-result-end-in-Defaults c = omega (arith, finding.in_defaults_table _ _ _ _ c.find.ensures _ c.in-Defaults.is)
+pub of-requires-in-Ok-Some-Defaults : goal.of-requires-in-Ok-Some-Defaults
+of-requires-in-Ok-Some-Defaults c = omega (arith, finding.in_defaults_table _ _ _ _ c.find.ensures c.in-Ok-Some-Defaults.part (cc))

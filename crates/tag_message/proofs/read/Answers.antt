@@ -1,16 +1,18 @@
 -- `tag_message::read` meets its contract: the tests decide in turn.
-use native.Mathlib.Omega.{arith}
-use Rattle.tag_message.specs.MessageLaws.{short_message, tested, no_message, message}
+use Rattle.std.proofs.Common.{arith}
+use Rattle.tag_message.specs.MessageLaws.{no_message, message}
 use Rattle.tag_message.proofs.read.Goals as goal
+use Rattle.tag_message.proofs.read.Goals.{else-message-middle-via-then-message-middle+then-value-le-VALUE_MOST+else-is_name, else-message-middle-via-then-message-middle+else-value-le-VALUE_MOST, else-message-middle-via-else-message-middle}
 
-pub returns-then-message-lt1 : goal.returns-then-message-lt1
-returns-then-message-lt1 c = short_message _ (omega arith)
+pub returns-then-is_name : goal.returns-then-is_name
+returns-then-is_name c =
+    message _ _ _ c.byte_at-name.ensures.value c.byte_at-value.ensures.value (omega arith) (omega arith) (cc)
 
-pub returns-then-message-middle : goal.returns-then-message-middle
-returns-then-message-middle c = short_message _ (omega arith)
-
-pub returns-then-is_name-value : goal.returns-then-is_name-value
-returns-then-is_name-value c = message _ (tested _ c.is_name.ensures c.if-is_name-value.true)
-
-pub returns : goal.returns
-returns c = no_message _ (tested _ c.is_name.ensures c.if-is_name-value.false)
+pub returns-else-message-middle : goal.returns-else-message-middle
+returns-else-message-middle c =
+    no_message _ _ _ c.byte_at-name.ensures.value c.byte_at-value.ensures.value
+    (λ a b. elim c.else-message-middle.branch [
+      | else-message-middle-via-then-message-middle+then-value-le-VALUE_MOST+else-is_name w ↦ cc
+      | else-message-middle-via-then-message-middle+else-value-le-VALUE_MOST w ↦ absurd (omega arith)
+      | else-message-middle-via-else-message-middle w ↦ absurd (w.if-message-middle.false a)
+    ])

@@ -1,10 +1,6 @@
--- `tag_survey::survey` meets its contract: what is found after i entries.
-use Prim.Native.Nat.{◌-◌}
-use Rattle.tag_survey.specs.SurveyLaws as law
+-- `tag_survey::survey` meets its contract: what holds after i entries.
+use Rattle.tag_survey.specs.SurveyLaws.{Progress}
 use Rattle.tag_survey.proofs.survey.Given as goal
 
 abbrev pub invariant-loop-i : goal.invariant-loop-i
-invariant-loop-i l = law.Progress l.table l.name l.met l.seen l.i
-
-abbrev pub decreases-loop-i : goal.decreases-loop-i
-decreases-loop-i l = 64 - l.i
+invariant-loop-i l = Progress l.entries l.met l.i

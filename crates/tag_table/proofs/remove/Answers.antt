@@ -1,37 +1,40 @@
 -- `tag_table::remove` meets its contract: the tests decide in turn, and the entry is zeroed.
-use mathlib.Core.Path.{sym, subst, ◌∙◌}
-use Prim.Native.Nat.{ℕ, ◌≤◌}
-use Rattle.tag_survey.specs.Tables.{entries_in}
-use Rattle.tag_survey.specs.SurveyLaws as survey
+use Rattle.std.proofs.Common.{sym, ap, ◌∙◌, refl, arith}
+use Rattle.std.specs.Option.{ok_or}
+use Rattle.tag_message.specs.declared.TagRefusal.TheVariants.{Absent}
+use Rattle.tag_survey.specs.SurveyLaws.{raised, sees}
+use Rattle.tag_table.specs.Changes.{without_tag}
 use Rattle.tag_table.specs.ChangeLaws as change
 use Rattle.tag_table.proofs.remove.Goals as goal
 
-pub returns-in_default : goal.returns-in_default
-returns-in_default c =
-    change.refuses_table _ _ _ _ _ c.if-table-ne-SIZE.false
-    (survey.no_table _ _ (sym c.survey.ensures ∙ c.in_default.is))
+pub returns-in_err-seen : goal.returns-in_err-seen
+returns-in_err-seen c =
+    rw (raised _ _ c.from_residual.ensures.1) (change.refused c.args.name.now _ _ _ _ (sym c.survey.ensures ∙ c.in_err-seen.was))
 
-pub returns-then-at-lt-ENTRIES : goal.returns-then-at-lt-ENTRIES
-returns-then-at-lt-ENTRIES c =
-    let s : survey.Sees c.args.name.now (entries_in c.args.table.now) c.in-Of.seen =
-    survey.sees _ _ _ (sym c.survey.ensures ∙ c.in-Of.is) in
-    change.tag_removed _ _ _ _ c.if-table-ne-SIZE.false s.table
-    (sym c.is_name.ensures ∙ c.if-is_name.true) c.if-at-lt-ENTRIES.true
-    s.named c.put_zeros.ensures
+pub returns-then-not-is_name : goal.returns-then-not-is_name
+returns-then-not-is_name c =
+    change.refuses_form c.args.name.now _ _ _ _ (sees _ _ _ (sym c.survey.ensures ∙ c.in_ok-seen.was)) (sym c.is_name.ensures ∙ c.if-not-is_name.true)
 
-pub returns-then-is_name : goal.returns-then-is_name
-returns-then-is_name c =
-    let s : survey.Sees c.args.name.now (entries_in c.args.table.now) c.in-Of.seen =
-    survey.sees _ _ _ (sym c.survey.ensures ∙ c.in-Of.is) in
-    change.refuses_place _ _ _ _ _ c.if-table-ne-SIZE.false s.table
-    (sym c.is_name.ensures ∙ c.if-is_name.true) (subst (λ (n : ℕ). 64 ≤ n) s.named c.if-at-lt-ENTRIES.false)
+pub returns-in_err-at : goal.returns-in_err-at
+returns-in_err-at c =
+    let s = sees _ _ _ (sym c.survey.ensures ∙ c.in_ok-seen.was) in
+    rw (raised _ _ c.from_residual-in_err-at.ensures.1)
+    (change.refuses_place c.args.name.now _ _ _ _ s (sym c.is_name.ensures ∙ c.if-not-is_name.false)
+    (ap (λ o. ok_or o Absent) (sym s.named) ∙ sym c.ok_or.ensures.value ∙ c.in_err-at.was))
+
+pub overflow_mul-at : goal.overflow_mul-at
+overflow_mul-at c =
+    let s = sees _ _ _ (sym c.survey.ensures ∙ c.in_ok-seen.was) in
+    omega (arith, change.named_at _ _ s Absent _ (sym c.ok_or.ensures.value ∙ c.in_ok-at.was))
+
+pub put_zeros-requires : goal.put_zeros-requires
+put_zeros-requires c =
+    let s = sees _ _ _ (sym c.survey.ensures ∙ c.in_ok-seen.was) in
+    omega (arith, change.named_at _ _ s Absent _ (sym c.ok_or.ensures.value ∙ c.in_ok-at.was))
 
 pub returns : goal.returns
+unfolding without_tag
 returns c =
-    let s : survey.Sees c.args.name.now (entries_in c.args.table.now) c.in-Of.seen =
-    survey.sees _ _ _ (sym c.survey.ensures ∙ c.in-Of.is) in
-    change.refuses_form _ _ _ _ _ c.if-table-ne-SIZE.false s.table
-    (sym c.is_name.ensures ∙ c.if-is_name.false)
-
-pub returns-then-table-ne-SIZE : goal.returns-then-table-ne-SIZE
-returns-then-table-ne-SIZE c = change.refuses_size _ _ _ _ _ c.if-table-ne-SIZE.true
+    let s = sees _ _ _ (sym c.survey.ensures ∙ c.in_ok-seen.was) in
+    change.stored c.args.name.now _ _ _ _ s _ _ (sym c.is_name.ensures ∙ c.if-not-is_name.false)
+    (change.named_at _ _ s Absent _ (sym c.ok_or.ensures.value ∙ c.in_ok-at.was)) refl c.put_zeros.ensures

@@ -1,10 +1,9 @@
 -- `transcript::time` meets its contract, case by case.
-use Rattle.notation.specs.Ascii.{ascii}
 use Rattle.transcript.specs.Lines.{time_line}
 use Rattle.transcript.proofs.time.Goals as goal
 
 pub returns-in-Ok : goal.returns-in-Ok
-unfolding time_line ascii
+unfolding time_line
 returns-in-Ok c = rw c.in-Ok.is c.number_line.ensures
 
 pub returns-in-Err : goal.returns-in-Err

@@ -1,14 +1,15 @@
--- `bench::poke::poke` meets its contract: a setting, a number, or what is behind them.
-use mathlib.Core.Path.{refl}
-use Rattle.bench.specs.FieldLaws.{settings_first}
+-- `bench::poke::poke` meets its contract, field by field.
+use Rattle.std.proofs.Common.{refl}
 use Rattle.bench.proofs.poke.poke.Goals as goal
 
-pub returns-then-field-lt5 : goal.returns-then-field-lt5
-returns-then-field-lt5 c h =
-    let e = c.setting-settings.ensures in
-    record {
-      fields = rw (e.1, e.2) (settings_first c.args.link.settings c.setting-settings.result _ _ _
-          c.if-field-lt5.true e.0);
-      counts = refl;
-      lists = refl;
-    }
+pub returns-in-2 : goal.returns-in-2
+returns-in-2 c h = record { fields = rw c.in-2.is; counts = refl; lists = refl }
+
+pub returns-in-4 : goal.returns-in-4
+returns-in-4 c h = record { fields = rw c.in-4.is; counts = refl; lists = refl }
+
+pub returns-in-19 : goal.returns-in-19
+returns-in-19 c h = record { fields = rw c.in-19.is; counts = refl; lists = refl }
+
+pub returns-in-20 : goal.returns-in-20
+returns-in-20 c h = record { fields = rw c.in-20.is; counts = refl; lists = refl }

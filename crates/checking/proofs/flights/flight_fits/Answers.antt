@@ -1,39 +1,29 @@
--- `flight_fits`: the records before index i are passed.
-use mathlib.Core.Path.{refl, sym, ap, ◌∙◌}
-use mathlib.Core.List.{List}
-use native.Mathlib.Omega.{arith}
-use borrow.Author.Rules.{rules}
-use Rattle.timing.specs.declared.Record.{Record}
+-- `flight_fits`: the records before the index are passed.
+use Rattle.std.proofs.Common.{◌≡◌, None, Some, sym, ap, ◌∙◌, take}
 use Rattle.records.specs.Tables.{blank}
-use Rattle.checking.specs.Tests.{flown_by, flight_fits}
+use Rattle.checking.specs.Tests.{least_after_all, flown_by, flight_fits}
 use Rattle.checking.specs.FlownLaws.{flown_fits}
-use Rattle.checking.proofs.Turns.{least_next, least_end, looked_all}
+use Rattle.checking.proofs.Turns.{least_next, least_none, least_end, looked_all}
 use Rattle.checking.proofs.flights.flight_fits.Goals as goal
 
-pub loop-i-init : goal.loop-i-init
-loop-i-init c =
-    (search rules, c.requires, refl)
+pub loop-record-preserved : goal.loop-record-preserved
+loop-record-preserved c =
+    least_next _ _ _ (take c.min.result c.args.records.now) _ _ _ blank c.loop-record-test.true c.loop-record.invariant _ c.in-Some.ensures
 
-pub loop-i-preserved : goal.loop-i-preserved
-loop-i-preserved c =
-    let a = c.args in
-    let l = c.loop-i in
-    let n = c.looked_at-n in (
-      search rules,
-      l.invariant.1,
-      least_next _ _ _ a.records.now n.result l.i _ l.least l.invariant.2 blank _
-          c.loop-i-test.true (omega (arith, n.ensures.1, l.invariant.1))
-          c.next_least-least.ensures,
-    )
+pub returns-in_default : goal.returns-in_default
+returns-in_default c =
+    let s = c.args in
+    let rs = take c.min.result s.records.now in
+    let passed = least_none s.settings.mode s.flight.una s.flight.next rs _ c.loop-record.least _ blank c.loop-record-test.true
+    c.loop-record.invariant c.in_default.ensures in
+    ap (flown_by s.flight.una s.flight.next) (sym passed) ∙ flown_fits s.settings.mode s.flight.una s.flight.next rs
+    ∙ ap (flight_fits s.settings.mode s.flight.una s.flight.next) (looked_all s.records.now s.flight.outstanding _ c.told-records c.min.ensures)
 
 pub returns : goal.returns
 returns c =
     let s = c.args in
-    let l = c.loop-i in
-    let n = c.looked_at-n in
-    let passed = least_end _ _ _ _ n.result l.i _ l.least l.invariant.2 c.loop-i-test.false in
-    c.flown.ensures
-    ∙ ap (flown_by s.flight.una s.flight.next) (sym passed)
-    ∙ flown_fits s.settings.mode s.flight.una s.flight.next _
-    ∙ ap (λ (rs : List Record). flight_fits s.settings.mode s.flight.una s.flight.next rs)
-    (looked_all _ _ _ l.invariant.1 n.ensures.0)
+    let rs = take c.min.result s.records.now in
+    let passed = least_end s.settings.mode s.flight.una s.flight.next rs _ c.loop-record.least _ c.loop-record-test.false
+    c.loop-record.invariant in
+    c.flown.ensures ∙ ap (flown_by s.flight.una s.flight.next) (sym passed) ∙ flown_fits s.settings.mode s.flight.una s.flight.next rs
+    ∙ ap (flight_fits s.settings.mode s.flight.una s.flight.next) (looked_all s.records.now s.flight.outstanding _ c.told-records c.min.ensures)

@@ -1,6 +1,4 @@
 -- `congestion::rules::avoidance` meets its contract.
-use borrow.Author.Rules.{rules}
-use Rattle.congestion.specs.Congestions.{avoidance}
 use Rattle.congestion.specs.CongestionLaws.{raised_fits}
 use Rattle.congestion.proofs.rules.avoidance.Goals as goal
 
@@ -12,7 +10,3 @@ widened-requires c = (
   c.requires.least,
   c.requires.most,
 )
-
-pub returns : goal.returns
-unfolding avoidance
-returns c = rw (c.widened.ensures, c.raised-allowance.ensures)

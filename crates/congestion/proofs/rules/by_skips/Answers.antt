@@ -1,8 +1,6 @@
 -- `congestion::rules::by_skips` meets its contract.
-use borrow.Author.Rules.{rules}
 use Prim.Native.Nat.{◌+◌}
 use native.Mathlib.Omega.{arith}
-use Rattle.congestion.specs.Congestions.{by_skips}
 use Rattle.congestion.specs.CongestionLaws.{halved_most, product_fits}
 use Rattle.congestion.proofs.rules.by_skips.Goals as goal
 
@@ -16,13 +14,9 @@ overflow_mul-result c =
           omega (
             arith,
             product_fits
-                (c.halved-threshold.result + c.args.losses.skips)
+                (c.halved-threshold.result + c.from.result)
                 c.args.mss
                 (omega (arith, c.halved-threshold.ensures, halved_most _ c.requires.inflight))
                 c.requires.most,
           );
     }
-
-pub returns : goal.returns
-unfolding by_skips
-returns c = rw c.halved-threshold.ensures

@@ -1,10 +1,7 @@
 -- `notation::put::bytes` meets its contract: after i turns the first i bytes of `s` are put.
-use native.Mathlib.Omega.{arith}
-use borrow.Author.Rules.{rules}
+use Rattle.std.proofs.Common.{rules}
 use Rattle.notation.specs.PutLaws.{put_next}
 use Rattle.notation.proofs.put.bytes.Goals as goal
 
-pub loop-i-preserved : goal.loop-i-preserved
-loop-i-preserved c =
-    let l = c.loop-i in
-    (omega arith, put_next _ _ _ _ _ _ _ l.i (search rules) l.invariant.1 c.byte-here.ensures)
+pub loop-b-preserved : goal.loop-b-preserved
+loop-b-preserved c = put_next _ _ _ _ _ _ _ c.loop-b.b-index (search rules) c.loop-b.invariant c.byte-here.ensures

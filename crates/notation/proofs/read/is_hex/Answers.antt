@@ -1,36 +1,17 @@
--- `notation::read::is_hex` meets its contract: the bytes passed are digits, so the word is digits where those left are.
-use mathlib.Core.Path.{sym, ◌∙◌}
-use mathlib.Core.Bool.{and-false}
-use native.Mathlib.Omega.{arith}
-use borrow.Author.Rules.{rules}
-use borrow.Author.Tests.{eq-eqb, ne_eqb}
+-- `notation::read::is_hex` meets its contract: an even number, and each of them a digit.
+use Rattle.std.proofs.Common.{rules, tests, eq-eqb, ne_eqb}
+use Rattle.std.proofs.lemmas.Iterator.{YieldsList-from_slice}
+use Rattle.std.proofs.lemmas.Iterator.Search.{all_from_yields_List}
 use Rattle.notation.specs.Hex.{is_hex_digit, is_hex}
-use Rattle.notation.specs.WordLaws.{every_more, every_stop, every_end}
 use Rattle.notation.proofs.read.is_hex.Goals as goal
 
-pub returns-then-s-ne0 : goal.returns-then-s-ne0
+pub returns-then-s-eq0 : goal.returns-then-s-eq0
 unfolding is_hex
-returns-then-s-ne0 c = rw (ne_eqb _ _ c.if-s-ne0.true)
+returns-then-s-eq0 c =
+    let s = c.args.s.now in
+    rw (eq-eqb _ _ c.if-s-eq0.true)
+    (all_from_yields_List is_hex_digit _ _ _ c.all.ensures.ran (YieldsList-from_slice s cc) (λ x b q k. search (rules, tests)))
 
-pub returns-then-not-is_hex_digit : goal.returns-then-not-is_hex_digit
+pub returns-else-s-eq0 : goal.returns-else-s-eq0
 unfolding is_hex
-returns-then-not-is_hex_digit c =
-    let l = c.loop-i in
-    rw (
-      l.invariant.1 ∙ every_stop is_hex_digit _ l.i (search rules) (sym c.is_hex_digit.ensures ∙ c.if-not-is_hex_digit.true),
-      and-false,
-    )
-
-pub loop-i-preserved : goal.loop-i-preserved
-loop-i-preserved c =
-    let l = c.loop-i in (
-      omega arith,
-      l.invariant.1 ∙ every_more is_hex_digit _ l.i (search rules)
-          (sym c.is_hex_digit.ensures ∙ c.if-not-is_hex_digit.false),
-    )
-
-pub returns : goal.returns
-unfolding is_hex
-returns c =
-    let l = c.loop-i in
-    rw (eq-eqb _ _ c.if-s-ne0.false, l.invariant.1 ∙ every_end is_hex_digit _ l.i c.loop-i-test.false)
+returns-else-s-eq0 c = rw (ne_eqb _ _ c.if-s-eq0.false)

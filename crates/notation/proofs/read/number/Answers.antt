@@ -1,54 +1,53 @@
 -- `notation::read::number` meets its contract: after i bytes, all of them digits, the number so far and the bytes left have
 -- the value of the word.
-use mathlib.Core.Path.{◌≡◌, sym, ◌∙◌}
-use Prim.Native.Nat.{◌+◌, ◌*◌, ◌-◌}
-use native.Mathlib.Omega.{arith}
-use borrow.Author.Rules.{rules}
-use lib.ListN.{get_or, drop}
-use Rattle.notation.specs.Decimal.{value}
+use Rattle.std.proofs.Common.{◌≡◌, sym, ◌∙◌, ◌+◌, ◌*◌, ◌-◌, get_or, arith, rules}
 use Rattle.notation.specs.Words.{is_digit}
-use Rattle.notation.specs.WordLaws.{is_empty, has_zero, no_digits, too_large, is_number, every_more, every_stop, every_end, value_more, value_end, value_grows}
+use Rattle.notation.specs.WordLaws.{is_empty, has_zero, no_digits, is_number, every_more, every_stop, every_end, value_more, value_end, too_many}
 use Rattle.notation.proofs.read.number.Goals as goal
+use Rattle.notation.proofs.read.number.Goals.{then-is_empty-via-then-is_empty, then-is_empty-via-else-is_empty+then-leading_zero}
 
-pub returns-then-s-eq0 : goal.returns-then-s-eq0
-returns-then-s-eq0 c = sym (is_empty _ c.if-s-eq0.true)
+pub returns-then-is_empty : goal.returns-then-is_empty
+returns-then-is_empty c =
+    elim c.then-is_empty.branch [
+      | then-is_empty-via-then-is_empty w ↦ sym (is_empty _ (search rules))
+      | then-is_empty-via-else-is_empty+then-leading_zero w ↦ sym (has_zero _ (sym w.leading_zero.ensures ∙ w.if-leading_zero.true))
+    ]
 
-pub returns-then-leading_zero : goal.returns-then-leading_zero
-returns-then-leading_zero c = sym (has_zero _ (sym c.leading_zero.ensures ∙ c.if-leading_zero.true))
+pub returns-in_err-digit : goal.returns-in_err-digit
+returns-in_err-digit c =
+    let l = c.loop-c in
+    c.from_residual.ensures
+    ∙ sym (no_digits _ (l.invariant.digits ∙ every_stop is_digit _ l.c-index (search rules) (c.in_err-digit.ensures)))
 
-pub returns-then-not-is_digit : goal.returns-then-not-is_digit
-returns-then-not-is_digit c =
-    let l = c.loop-i in
-    sym (no_digits _ (l.invariant.2 ∙ every_stop is_digit _ l.i (search rules)
-    (sym c.is_digit.ensures ∙ c.if-not-is_digit.true)))
+pub returns-in_err-checked_mul : goal.returns-in_err-checked_mul
+returns-in_err-checked_mul c =
+    let l = c.loop-c in
+    c.from_residual-in_err-checked_mul.ensures
+    ∙ sym (too_many _ l.c-index l.n (search rules) l.invariant.whole (omega (arith, c.in_err-checked_mul.ensures)))
 
-pub returns-then-n-gt-MOST : goal.returns-then-n-gt-MOST
-returns-then-n-gt-MOST c =
-    let l = c.loop-i in
-    let s = c.args.s.now in
-    let more : value 0 s ≡ _ = l.invariant.3 ∙ value_more s l.i l.n (search rules) in
-    sym (too_large _ (omega (
-      arith,
-      more,
-      c.digit_value.ensures.0,
-      value_grows (10 * l.n + (get_or s l.i 0 - 48)) (drop (l.i + 1) s),
-    )))
+pub returns-in_err-n : goal.returns-in_err-n
+returns-in_err-n c =
+    let l = c.loop-c in
+    c.from_residual-in_err-n.ensures
+    ∙ sym (too_many _ l.c-index l.n (search rules) l.invariant.whole
+    (omega (arith, c.in_err-n.ensures, c.in_ok-checked_mul.ensures, c.in_ok-digit.ensures)))
 
-pub loop-i-preserved : goal.loop-i-preserved
-loop-i-preserved c =
-    let l = c.loop-i in (
-      omega arith,
-      omega arith,
-      l.invariant.2 ∙ every_more is_digit _ l.i (search rules)
-          (sym c.is_digit.ensures ∙ c.if-not-is_digit.false),
-      rw c.digit_value.ensures.0 (l.invariant.3 ∙ value_more _ l.i l.n (search rules)),
-    )
+pub loop-c-preserved : goal.loop-c-preserved
+loop-c-preserved c =
+    let l = c.loop-c in
+    let next : c.in_ok-n.n ≡ 10 * l.n + (get_or c.args.s.now l.c-index 0 - 48) =
+    omega (arith, c.in_ok-n.ensures, c.in_ok-checked_mul.ensures, c.in_ok-digit.ensures) in
+    record {
+      small = search rules;
+      digits = l.invariant.digits ∙ every_more is_digit _ l.c-index (search rules) (c.in_ok-digit.ensures).0;
+      whole = rw next (l.invariant.whole ∙ value_more _ l.c-index l.n (search rules));
+    }
 
 pub returns : goal.returns
 returns c =
-    let l = c.loop-i in
+    let l = c.loop-c in
     let s = c.args.s.now in
-    let all : value 0 s ≡ l.n = l.invariant.3 ∙ value_end s l.i l.n c.loop-i-test.false in
-    let digits = l.invariant.2 ∙ every_end is_digit s l.i c.loop-i-test.false in
+    let all : _ ≡ l.n = l.invariant.whole ∙ value_end s l.c-index l.n (omega arith) in
+    let digits = l.invariant.digits ∙ every_end is_digit s l.c-index (omega arith) in
     let no_zero = sym c.leading_zero.ensures ∙ c.if-leading_zero.false in
-    sym (rw all at (is_number s (omega (arith, c.if-s-eq0.false)) no_zero digits (omega (arith, all))))
+    sym (rw all at (is_number s (search rules) no_zero digits (omega (arith, all))))

@@ -1,17 +1,13 @@
--- `parity_writer::shards::largest_of` meets its contract: the larger of what was met and what is left.
-use native.Mathlib.Omega.{arith}
-use borrow.Author.Rules.{rules}
-use Rattle.frames.specs.PartLaws.{largest_step, largest_end}
-use Rattle.parity_writer.proofs.shards.largest_of.Goals.{then-most-lengths, else-most-lengths}
+-- `parity_writer::shards::largest_of` meets its contract.
+use Rattle.std.proofs.Common.{refl, arith, rules}
+use Rattle.std.proofs.lemmas.Grind.{common_steps}
+use Rattle.std.proofs.lemmas.List.Recursion.{max_bounds, max_least}
+use Rattle.frames.specs.Lists.{largest}
 use Rattle.parity_writer.proofs.shards.largest_of.Goals as goal
 
-pub loop-i-preserved : goal.loop-i-preserved
-loop-i-preserved c =
-    let s = largest_step c.args.lengths.now c.loop-i.i (search rules) in
-    elim c.if-most-lengths.branch [
-      | then-most-lengths w ↦ (omega arith, omega (arith, s))
-      | else-most-lengths w ↦ (omega arith, omega (arith, s))
-    ]
-
 pub returns : goal.returns
-returns c = omega (arith, largest_end c.args.lengths.now c.loop-i.i c.loop-i-test.false)
+unfolding largest
+returns c =
+    let bounds = max_bounds largest (λ x. x) refl (λ _ _. refl) c.args.lengths.now in
+    let least = max_least largest (λ x. x) refl (λ _ _. refl) c.args.lengths.now 0 c.unwrap_or.result (search rules) in
+    grind (arith, common_steps, bounds, least)

@@ -1,7 +1,5 @@
 -- `parity_writer::shards::parity_row` meets its contract: what the places from p on give, p weighed as place 0.
-use mathlib.Core.Path.{◌≡◌}
-use Prim.Native.Nat.{◌+◌, ◌≤◌}
-use lib.ListN.{length, take}
+use Rattle.std.proofs.Common.{◌≡◌, ◌+◌, length, take}
 use Rattle.rows.specs.Rows.{Row}
 use Rattle.frames.specs.Lists.{add_up, largest}
 use Rattle.frames.specs.WeightLaws.{tail}
@@ -10,8 +8,6 @@ use Rattle.parity_writer.proofs.shards.parity_row.Given as goal
 
 abbrev pub invariant-loop-p : goal.invariant-loop-p
 invariant-loop-p l =
-    (l.p ≤ length l.lengths) × (l.from ≡ add_up (take l.p l.lengths)) × Row (λ x. tail l.w (shard_byte l.s l.lengths x) l.p (length l.lengths))
-    (largest l.lengths + 2) l.row
-
-abbrev pub decreases-loop-p : goal.decreases-loop-p
-decreases-loop-p l = l.p
+    (l.from ≡ add_up (take l.p l.datagrams.lengths.now))
+    × Row (λ x. tail l.w (shard_byte l.datagrams.bytes.now l.datagrams.lengths.now x) l.p (length l.datagrams.lengths.now))
+    (largest l.datagrams.lengths.now + 2) l.row

@@ -8,7 +8,7 @@ returns-then-due c =
     when_reached _ _ _
     (rw (← c.started.ensures, ← c.corrected-next.ensures)
     (sym c.due.ensures ∙ c.if-due.true))
-    (rw (← c.started.ensures, ← c.corrected-next.ensures, ← c.following-later.ensures))
+    (rw (← c.started.ensures, ← c.corrected-next.ensures, ← c.from.ensures, ← c.following-later.ensures))
 
 pub returns : goal.returns
 returns c =

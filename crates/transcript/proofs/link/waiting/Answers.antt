@@ -1,43 +1,38 @@
 -- `transcript::link::waiting` meets its contract: after i turns the first i segments are put.
-use mathlib.Core.Path.{◌≡◌, sym, ap, ◌∙◌}
-use Prim.Native.Nat.{◌<◌}
-use native.Mathlib.Omega.{arith}
-use borrow.Author.Rules.{rules}
-use lib.ListN.{length, get_or}
-use Rattle.notation.specs.PutLaws.{put_none}
+use Rattle.std.proofs.Common.{◌≡◌, ◌<◌, List, ℕ, length, get_or, arith, rules, length-append, take_all}
+use Rattle.std.proofs.lemmas.Slice.Zip.{zip_turn, zip_end}
 use Rattle.lists.specs.declared.Held.{Held}
-use Rattle.words.specs.Words.{paired, waiting_at}
-use Rattle.words.proofs.Pairs.{paired_take, paired_length, paired_get}
+use Rattle.words.specs.Words.{unpack, paired, waiting_at}
+use Rattle.words.proofs.Pairs.{paired_get}
 use Rattle.transcript.specs.Lines.{waiting_entry}
-use Rattle.transcript.specs.LineLaws.{each_none, each_put, put_same, take_least}
+use Rattle.transcript.specs.LineLaws.{each_put, put_same, pairs_length}
 use Rattle.transcript.proofs.link.waiting.Goals as goal
 
-pub loop-i-init : goal.loop-i-init
-loop-i-init c = (omega arith, c.least-n.ensures, rw (each_none _) (put_none _ _))
+-- the segment at an index
+item : (h : Held) (w n : ℕ) (ws ns : List ℕ) (k : ℕ) → h ≡ unpack w → w ≡ get_or ws k 0 → n ≡ get_or ns k 0 → k < length ws → k < length ns
+    → record { number = n; held = h } ≡ get_or (paired waiting_at ws ns) k (waiting_at 0 0)
+item h w n ws ns k e f g inside beside = rw (paired_get waiting_at ws ns k (waiting_at 0 0) inside beside, e, f, g)
 
-pub loop-i-preserved : goal.loop-i-preserved
-loop-i-preserved c =
-    let l = c.loop-i in
-    let a = c.args in
-    let whole : length a.words ≡ 128 = search rules in
-    let beside : length a.numbers ≡ 128 = search rules in
-    let inside : l.i < 128 = omega arith in
-    let all = paired_length waiting_at a.words a.numbers 128 whole beside in
-    let here = ap (λ (h : Held). record { number = get_or a.numbers l.i 0; held = h })
-    c.from.ensures ∙ sym
-    (paired_get waiting_at a.words a.numbers l.i (waiting_at 0 0) (omega arith) (omega arith)) in (
-      omega arith,
-      l.invariant.1,
-      each_put waiting_entry (paired waiting_at a.words a.numbers) l.i _ _ _ _ _ _ _ (omega (arith, all)) l.invariant.2
-          (put_same waiting_entry here c.waiting_entry-here.ensures),
-    )
+pub loop-word-preserved : goal.loop-word-preserved
+loop-word-preserved c =
+    let l = c.loop-word in
+    let words = c.args.words.now in
+    let numbers = c.args.numbers.now in
+    let turn = zip_turn words numbers l.yielded c.into_iter-word-iterator.result l.word-iterator c.next.new.self c.next.result
+    (search rules) (search rules) l.yielded_by (c.in-Some.word, c.in-Some.number)
+    c.in-Some.is c.next.ensures.steps in
+    let k = length l.yielded in
+    let pairs = paired waiting_at words numbers in
+    let here = item c.from.result _ _ words numbers k c.from.ensures (turn.2 0) (turn.3 0) turn.0 turn.1 in
+    rw length-append (each_put waiting_entry pairs k _ _ _ _ _ _ _ (omega (arith, turn.0, turn.1, pairs_length waiting_at words numbers)) l.invariant
+    (put_same waiting_entry here c.waiting_entry-here.ensures))
 
 pub returns : goal.returns
 returns c =
-    let l = c.loop-i in
-    let a = c.args in
-    let whole = paired_length waiting_at a.words a.numbers 128 (search rules) (search rules) in
-    rw (
-      take_least (paired waiting_at a.words a.numbers) a.count 128 l.i whole (omega arith),
-      ← paired_take waiting_at a.count a.words a.numbers,
-    ) at l.invariant.2
+    let words = c.args.words.now in
+    let numbers = c.args.numbers.now in
+    let last = zip_end words numbers c.loop-word.yielded c.into_iter-word-iterator.result c.loop-word.word-iterator c.next.new.self
+    c.next.result (search rules) (search rules) c.loop-word.yielded_by c.in-None.is
+    c.next.ensures.steps in
+    rw (take_all (length c.loop-word.yielded) (paired waiting_at words numbers) (omega (arith, last, pairs_length waiting_at words numbers))) at
+    c.loop-word.invariant
