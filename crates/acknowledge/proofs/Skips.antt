@@ -1,7 +1,8 @@
 -- The furthest ack number, and the skips that it brings.
 -- Assumes nothing.
+use Rattle.std.specs.Prelude.{Option, Some, None}
 use mathlib.Core.Path.{◌≡◌, refl, sym, ap, ◌∙◌}
-use mathlib.Core.Bool.{Bool, true, false, cond, not, ◌&&◌, false≢true, true≢false}
+use mathlib.Core.Bool.{Bool, true, false, cond, not, ◌&&◌}
 use mathlib.Core.List.{List, [], ◌∷◌, map}
 use Prim.Native.Nat.{ℕ, zero, suc}
 use borrow.Author.Tests.{eq-eqb, ne_eqb}
@@ -20,48 +21,29 @@ use Rattle.words.proofs.Pairs.{paired_take}
 use Rattle.acknowledge.specs.Flights.{View, view, sent_in, InOrder, FlightIs}
 use Rattle.acknowledge.specs.Furthest.{further, further_by, skipped_by}
 use Rattle.acknowledge.specs.Hearing.{skip_record}
-use Rattle.acknowledge.specs.declared.Furthest.{Furthest}
 
 -- ---- one segment more
 
-module _ (f : Furthest) (h : Header) where
-  pub no_ack : (h.cmd ≡ 82 → ⊥) → f ≡ further_by f h
-  unfolding further_by
-  no_ack e = rw (ne_eqb h.cmd 82 e)
+pub no_ack : (f : Option ℕ) (h : Header) → (h.cmd ≡ 82 → ⊥) → f ≡ further_by f h
+unfolding further_by
+no_ack f h e = rw (ne_eqb h.cmd 82 e)
 
-  -- the flag says that the number known stays
-  module _ (b : Bool) (e : h.cmd ≡ 82) (g : b ≡ is_after h.sn f.number) where
-    pub stays : f.any && not b ≡ true → f ≡ further_by f h
-    unfolding further_by further
-    stays t = rw (eq-eqb h.cmd 82 e, ← g) (go f.any b t)
-      where
-        go : (any b : Bool) → any && not b ≡ true
-            → f ≡ cond any (cond b (record { any = true; number = h.sn }) f) (record { any = true; number = h.sn })
-        go true false t = refl
-        go true true t = absurd (false≢true t)
-        go false b t = absurd (false≢true t)
+module _ (h : Header) (e : h.cmd ≡ 82) where
+  pub begins : Some h.sn ≡ further_by None h
+  unfolding further_by further
+  begins = rw (eq-eqb h.cmd 82 e)
 
-    pub replaced : f.any && not b ≡ false → record { any = true; number = h.sn } ≡ further_by f h
+  -- the flag says that the number known is passed
+  module _ (n : ℕ) (b : Bool) (g : b ≡ is_after h.sn n) where
+    pub stays : b ≡ false → Some n ≡ further_by (Some n) h
     unfolding further_by further
-    replaced t = rw (eq-eqb h.cmd 82 e, ← g) (go f.any b t)
-      where
-        go : (any b : Bool) → any && not b ≡ false
-            → record { any = true; number = h.sn } ≡ cond any (cond b (record { any = true; number = h.sn }) f)
-            (record { any = true; number = h.sn })
-        go true false t = absurd (true≢false t)
-        go true true t = refl
-        go false b t = refl
+    stays t = rw (eq-eqb h.cmd 82 e, ← g, t)
+
+    pub replaced : b ≡ true → Some h.sn ≡ further_by (Some n) h
+    unfolding further_by further
+    replaced t = rw (eq-eqb h.cmd 82 e, ← g, t)
 
 -- ---- skips
-
-both : (a b : Bool) → a && b ≡ true → (a ≡ true) × (b ≡ true)
-both true b t = (refl, t)
-both false b t = absurd (false≢true t)
-
--- where one of two tests fails
-neither : {A : Type 0} (a b : Bool) → a && b ≡ false → (x y : A) → cond a (cond b x y) y ≡ y
-neither true b t x y = rw t
-neither false b t x y = refl
 
 -- a skip of a record is one of its segment
 skip_joined : (n : ℕ) (o : Outstanding) (r : Record) → with_record o (skip_record n r) ≡ skip_before n (with_record o r)
@@ -86,26 +68,23 @@ joined_front (suc k) [] rs = refl
 joined_front (suc k) (o ∷ os) [] = refl
 joined_front (suc k) (o ∷ os) (r ∷ rs) = ap (λ (l : List Sent). with_record o r ∷ l) (joined_front k os rs)
 
-module _ (v : View) (n : Furthest) (b : Bool) (o : InOrder v)
-    (g : b ≡ (not (is_before n.number v.flight.una) && is_before n.number v.flight.next)) where
-  pub skips_are : (rs : List Record) → n.any && b ≡ true
-      → take v.flight.outstanding rs ≡ map (skip_record n.number) (take v.flight.outstanding v.records)
-      → FlightIs (view v.flight v.words v.transmissions rs) v (skipped_by n)
-  unfolding skipped_by input.skipped
-  skips_are rs t s =
-      let p = both n.any b t in
-      let k = v.flight.outstanding in
-      let os = paired outstanding_at v.words v.transmissions in
-      let e : joined (outstanding_in v.words v.transmissions k) rs ≡ map (skip_before n.number) (sent_in v) =
-      rw (paired_take outstanding_at k v.words v.transmissions) (sym (joined_front k os rs) ∙ rw (s, skips_joined, joined_front)) in
-      record { whole = o.whole; wholes = o.wholes; fits = o.fits; queue = refl; half = λ q. rw (p.0, ← g, p.1, e) }
+module _ (v : View) (o : InOrder v) where
+  pub none_named : FlightIs v v (skipped_by None)
+  unfolding skipped_by
+  none_named = record { whole = o.whole; wholes = o.wholes; fits = o.fits; queue = refl; half = λ q. refl }
 
-  pub no_skips : n.any && b ≡ false → FlightIs v v (skipped_by n)
-  unfolding skipped_by input.skipped
-  no_skips t = record {
-    whole = o.whole;
-    wholes = o.wholes;
-    fits = o.fits;
-    queue = refl;
-    half = λ q. rw (← g) (sym (neither n.any b t _ _));
-  }
+  module _ (n : ℕ) (b : Bool) (g : b ≡ (not (is_before n v.flight.una) && is_before n v.flight.next)) where
+    pub skips_are : (rs : List Record) → b ≡ true
+        → take v.flight.outstanding rs ≡ map (skip_record n) (take v.flight.outstanding v.records)
+        → FlightIs (view v.flight v.words v.transmissions rs) v (skipped_by (Some n))
+    unfolding skipped_by input.skipped
+    skips_are rs t s =
+        let k = v.flight.outstanding in
+        let os = paired outstanding_at v.words v.transmissions in
+        let e : joined (outstanding_in v.words v.transmissions k) rs ≡ map (skip_before n) (sent_in v) =
+        rw (paired_take outstanding_at k v.words v.transmissions) (sym (joined_front k os rs) ∙ rw (s, skips_joined, joined_front)) in
+        record { whole = o.whole; wholes = o.wholes; fits = o.fits; queue = refl; half = λ q. rw (← g, t, e) }
+
+    pub no_skips : b ≡ false → FlightIs v v (skipped_by (Some n))
+    unfolding skipped_by input.skipped
+    no_skips t = record { whole = o.whole; wholes = o.wholes; fits = o.fits; queue = refl; half = λ q. rw (← g, t) }

@@ -1,6 +1,6 @@
 -- The loop over a datagram's segments: what has been heard, and what remains, together are the whole.
 -- Assumes nothing.
-use Rattle.std.specs.Prelude.{Some, None}
+use Rattle.std.specs.Prelude.{Option, Some, None}
 use mathlib.Core.Path.{◌≡◌, refl, sym, ◌∙◌}
 use mathlib.Core.List.{List, []}
 use Prim.Native.Nat.{ℕ, ◌-◌, ◌<◌}
@@ -16,12 +16,11 @@ use Rattle.session.specs.Input.{heard_by_sending, all_by_sending, ack_numbers, s
 use Rattle.acknowledge.specs.Flights.{View, half_with, FlightIs, HearsAll}
 use Rattle.acknowledge.specs.Furthest.{none_yet, further_by, further_by_all, skipped_by}
 use Rattle.acknowledge.specs.FurthestLaws.{skipped_all}
-use Rattle.acknowledge.specs.declared.Furthest.{Furthest}
 use Rattle.acknowledge.proofs.Hearing.{Ordered, heard_order}
 
 -- v₀ is what the loop began with; the segments from index at on remain
 module _ (c : Settings) (current : ℕ) (s : List ℕ) (v₀ : View) where
-  pub record Walking (v : View) (furthest : Furthest) (at : ℕ) : Type 0 where
+  pub record Walking (v : View) (furthest : Option ℕ) (at : ℕ) : Type 0 where
     pub all : List Segment
     pub rest : List Segment
     pub parsed : parse c.conv (mss c) s ≡ segments all
@@ -43,7 +42,7 @@ module _ (c : Settings) (current : ℕ) (s : List ℕ) (v₀ : View) where
     acked = refl;
   }
 
-  module _ (v : View) (furthest : Furthest) (at : ℕ) (w : Walking v furthest at) where
+  module _ (v : View) (furthest : Option ℕ) (at : ℕ) (w : Walking v furthest at) where
     -- the next segment
     module _ (p : Place) (e : step_at s at ≡ Some p) where
       first : Took c.conv (mss c) s at w.rest p.header p.start p.next
@@ -52,7 +51,7 @@ module _ (c : Settings) (current : ℕ) (s : List ℕ) (v₀ : View) where
       pub walking_less : length s - p.next < length s - at
       walking_less = omega (arith, first.follows, first.inside)
 
-      pub walking_more : (v' : View) (furthest' : Furthest) → furthest' ≡ further_by furthest p.header
+      pub walking_more : (v' : View) (furthest' : Option ℕ) → furthest' ≡ further_by furthest p.header
           → FlightIs v' v (λ x. heard_by_sending c current x p.header) → Walking v' furthest' p.next
       unfolding all_by_sending further_by_all
       walking_more v' furthest' b a = record {

@@ -1,20 +1,19 @@
 -- The furthest number found segment by segment is that of the list of the acks' numbers.
 -- Assumes nothing.
-use Rattle.std.specs.Prelude.{◌≡◌, refl, Bool, true, false, cond, List, [], ◌∷◌, ℕ, eqb}
+use Rattle.std.specs.Prelude.{◌≡◌, refl, Bool, true, false, cond, List, [], ◌∷◌, ℕ, eqb, Option, Some}
 use Rattle.protocol.specs.Protocol.{ack}
 use Rattle.protocol.specs.Serial.{is_after}
 use Rattle.datagram.specs.Datagrams.{Segment}
 use Rattle.session.specs.State.{Sending}
 use Rattle.session.specs.Input.{ack_numbers, furthest, skipped_by_all}
-use Rattle.acknowledge.specs.declared.Furthest.{Furthest}
 use Rattle.acknowledge.specs.Furthest.{none_yet, further, further_by, further_by_all, skipped_by}
 
 -- number by number
-onward : Furthest → List ℕ → Furthest
+onward : Option ℕ → List ℕ → Option ℕ
 onward f [] = f
 onward f (n ∷ l) = onward (further f n) l
 
-by_numbers : (gs : List Segment) (f : Furthest) → further_by_all f gs ≡ onward f (ack_numbers gs)
+by_numbers : (gs : List Segment) (f : Option ℕ) → further_by_all f gs ≡ onward f (ack_numbers gs)
 unfolding further_by_all further_by ack_numbers onward
 by_numbers [] f = refl
 by_numbers (g ∷ gs) f = go (eqb g.header.cmd ack) (by_numbers gs (further_by f g.header))
@@ -25,17 +24,10 @@ by_numbers (g ∷ gs) f = go (eqb g.header.cmd ack) (by_numbers gs (further_by f
     go false ih = ih
 
 -- once one has come
-from_first : (n : ℕ) (l : List ℕ) → onward (record { any = true; number = n }) l ≡ record { any = true; number = furthest n l }
+from_first : (n : ℕ) (l : List ℕ) → onward (Some n) l ≡ Some (furthest n l)
 unfolding further furthest onward
 from_first n [] = refl
-from_first n (k ∷ l) = go (is_after k n) (from_first k l) (from_first n l)
-  where
-    go : (t : Bool) → onward (record { any = true; number = k }) l ≡ record { any = true; number = furthest k l }
-        → onward (record { any = true; number = n }) l ≡ record { any = true; number = furthest n l }
-        → onward (cond t (record { any = true; number = k }) (record { any = true; number = n })) l ≡ record
-        { any = true; number = furthest (cond t k n) l }
-    go true a b = a
-    go false a b = b
+from_first n (k ∷ l) = from_first (cond (is_after k n) k n) l
 
 skipped_numbers : (s : Sending) (l : List ℕ) → skipped_by (onward none_yet l) s ≡ skipped_by_all s l
 unfolding skipped_by further onward

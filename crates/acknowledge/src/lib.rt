@@ -6,11 +6,11 @@ ghost use Rattle.protocol.specs.Ranges.{mss};
 ghost use Rattle.protocol.specs.Serial.{is_before};
 ghost use Rattle.datagram.specs.StepLaws.{Begun};
 ghost use Rattle.lists.specs.Joining.{joined};
-ghost use Rattle.lists.specs.Acknowledging.{filter, first_number_or};
+ghost use Rattle.lists.specs.Acknowledging.{filter};
 ghost use Rattle.words.specs.Words.{outstanding_in};
 ghost use Rattle.records.specs.Tables.{blank};
 ghost use Rattle.acknowledge.specs.Flights.{JoinedIn, InOrder, HearsAll, view};
-ghost use Rattle.acknowledge.specs.Furthest.{none_yet, further_by};
+ghost use Rattle.acknowledge.specs.Furthest.{further_by};
 ghost use Rattle.acknowledge.specs.Hearing.{stays_by, Concerns, timed_by, skip_record};
 
 use control::Flight;
@@ -18,20 +18,6 @@ use protocol::{Protocol, Settings, serial};
 use retransmission::outstanding;
 use timing::{Record, RoundTrip};
 use wire::Header;
-
-// The segments that stay outstanding: how many, and the first one's number (with none, snd_nxt).
-#[derive(Clone, Copy)]
-struct Left {
-    count: usize,
-    first: u32,
-}
-
-// The furthest number that the acks of a datagram have named so far, if any came.
-#[derive(Clone, Copy)]
-struct Furthest {
-    any: bool,
-    number: u32,
-}
 
 // Whether the segment with that number stays outstanding after a segment is heard: its una, if not after snd_nxt, is not after the
 // number, and no ack names it.
@@ -68,34 +54,24 @@ fn remaining(
     n: usize,
     next: u32,
     h: Header,
-) -> Left
-    requires { (length words.old ≡ 32) × (length transmissions.old ≡ 32) × (length records.old ≡ 32) × (n ≤ 32) }
-    ensures { JoinedIn words.new transmissions.new result.count records.new
+) -> usize
+    requires { n ≤ 32 }
+    ensures { JoinedIn words.new transmissions.new result records.new
         (filter (stays_by next h)
         (joined (outstanding_in words.old transmissions.old n) records.old))
-        × (result.first ≡ first_number_or (filter (stays_by next h)
-        (joined (outstanding_in words.old transmissions.old n) records.old)) next)
         × (length records.new ≡ 32) }
 {
-    let mut i: usize = 0;
-    let mut j: usize = 0;
-    while i < n {
-        let word = words[i];
-        let sent = transmissions[i];
-        let record = records[i];
-        i += 1;
-        if stays(next, h, record.number) {
-            words[j] = word;
-            transmissions[j] = sent;
-            records[j] = record;
-            j += 1;
+    let mut j = 0;
+    for i in 0..n {
+        if !stays(next, h, records[i].number) {
+            continue;
         }
+        words[j] = words[i];
+        transmissions[j] = transmissions[i];
+        records[j] = records[i];
+        j += 1;
     }
-    let first = records[0];
-    Left {
-        count: j,
-        first: first_number(j, first, next),
-    }
+    j
 }
 
 // The round trip after a segment is heard: if it is an ack and current - ts is 0 or more, that is a sample.
@@ -110,32 +86,20 @@ fn timed(rtt: RoundTrip, settings: Settings, current: u32, h: Header) -> RoundTr
     rtt
 }
 
-impl Furthest {
-    // No ack has come.
-    fn new() -> Self
-        ensures { result ≡ none_yet }
-    {
-        Furthest {
-            any: false,
-            number: 0,
+// The furthest number that acks have named so far, after one more segment: the first ack's number, replaced by each later one that is
+// after it.
+fn further(furthest: Option<u32>, h: Header) -> Option<u32>
+    ensures { result ≡ further_by furthest h }
+{
+    if h.cmd != Protocol::ACK {
+        return furthest;
+    }
+    if let Some(number) = furthest {
+        if !serial::after(h.sn, number) {
+            return furthest;
         }
     }
-
-    // After a segment: the first ack's number, replaced by each later one that is after it.
-    fn after(self, h: Header) -> Self
-        ensures { result ≡ further_by self h }
-    {
-        if h.cmd != Protocol::ACK {
-            return self;
-        }
-        if self.any & !serial::after(h.sn, self.number) {
-            return self;
-        }
-        Furthest {
-            any: true,
-            number: h.sn,
-        }
-    }
+    Some(h.sn)
 }
 
 // Whether the number counts: it is not before snd_una and is before snd_nxt.
@@ -158,15 +122,12 @@ fn skipped(old: Record, number: u32) -> Record
 
 // The records, where each of the first n whose number is before the given one has one skip more.
 fn skip_before(records: &mut [Record; 32], n: usize, number: u32)
-    requires { (length records.old ≡ 32) × (n ≤ 32) }
+    requires { n ≤ 32 }
     ensures { (take n records.new ≡ map (skip_record number) (take n records.old))
         × (length records.new ≡ 32) }
 {
-    let mut i: usize = 0;
-    while i < n {
-        let old = records[i];
-        records[i] = skipped(old, number);
-        i += 1;
+    for i in 0..n {
+        records[i] = skipped(records[i], number);
     }
 }
 
@@ -205,17 +166,16 @@ pub fn hear(
 {
     numbers_fit(records);
     let mut f = flight;
-    let mut furthest = Furthest::new();
+    let mut furthest = None;
     let mut at: usize = 0;
     while let Some(segment) = datagram::segment_at(s, at) {
         let header = segment.header;
         at = segment.next;
-        furthest = furthest.after(header);
+        furthest = further(furthest, header);
         f.window = header.wnd;
-        let before = f.rtt;
-        f.rtt = timed(before, settings, current, header);
+        f.rtt = timed(f.rtt, settings, current, header);
         if concerns(header, f.una, f.next) {
-            let left = remaining(
+            f.outstanding = remaining(
                 outstanding,
                 transmissions,
                 records,
@@ -223,12 +183,13 @@ pub fn hear(
                 f.next,
                 header,
             );
-            f.outstanding = left.count;
-            f.una = left.first;
+            f.una = first_number(f.outstanding, records[0], f.next);
         }
     }
-    if furthest.any & counts(f.una, f.next, furthest.number) {
-        skip_before(records, f.outstanding, furthest.number);
+    if let Some(number) = furthest {
+        if counts(f.una, f.next, number) {
+            skip_before(records, f.outstanding, number);
+        }
     }
     f
 }

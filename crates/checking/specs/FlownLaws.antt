@@ -1,19 +1,18 @@
 -- One pass over the records of the outstanding segments says what their tests say.
 -- Assumes nothing.
-use Rattle.std.specs.Prelude.{◌≡◌, Bool, cond, ◌&&◌, ◌||◌, ℕ, ◌+◌, ◌^◌, ◌<◌, leb, Some, None}
+use Rattle.std.specs.Prelude.{◌≡◌, Bool, cond, ◌&&◌, ◌||◌, ℕ, ◌+◌, ◌<◌, leb, None}
 use Rattle.std.proofs.Math.Path.{refl}
 use Rattle.std.proofs.Common.{sym, ap, ◌∙◌}
 use Rattle.std.proofs.Math.Bool.{true, false, and-false, and-true}
 use Rattle.std.specs.declared.option.Option.{Option}
 use mathlib.Core.List.{List, [], ◌∷◌}
 use native.Mathlib.Omega.{arith}
-use borrow.Author.Tests.{lt-ltb, lt-leb, ltb-true}
+use borrow.Author.Tests.{lt-ltb}
 use Rattle.std.proofs.Math.Dec.{ltb, eqb}
 use Rattle.protocol.specs.Protocol.{send_window}
 use Rattle.protocol.specs.Serial.{minus}
 use Rattle.timing.specs.declared.Record.{Record}
-use Rattle.session.specs.Decides.{and_parts}
-use Rattle.checking.specs.Tests.{record_fits, records_fit, first_of, flight_fits, least_after, least_after_all, flown_by}
+use Rattle.checking.specs.Tests.{record_fits, records_fit, first_of, flight_fits, least_after_all, flown_by}
 
 module _ (mode una next : ℕ) where
   abbrev passed : ℕ → List Record → Option ℕ

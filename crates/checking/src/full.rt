@@ -1,15 +1,8 @@
 // The slots of the receiving half, marked. Where every slot of the pool is held in list order none is held twice and none is free: then
 // no segment is looked at on its own.
-ghost use Rattle.std.specs.Prelude.{◌≡◌, ◌+◌, ◌≤◌, ◌%◌, eqb, length};
+ghost use Rattle.std.specs.Prelude.{◌≡◌, ◌+◌, ◌≤◌, length};
 ghost use Rattle.marks.specs.Marks.{none};
 ghost use Rattle.checking.specs.Tests.{in_line, HeldOnce};
-
-// Whether a word's slot is this one.
-fn is_at(word: u32, slot: u32) -> bool
-    ensures { result ≡ eqb (word % 256) slot }
-{
-    word % 256 == slot
-}
 
 // Whether the slots of words are `from` and those after it, in order.
 fn in_line(words: &[u32], from: u32) -> bool
@@ -18,7 +11,7 @@ fn in_line(words: &[u32], from: u32) -> bool
 {
     let mut fit = true;
     for (i, word) in words.iter().enumerate() {
-        fit = fit & is_at(*word, from + i as u32);
+        fit = fit & (*word % 256 == from + i as u32);
     }
     fit
 }

@@ -9,7 +9,7 @@ use protocol::Protocol;
 pub fn word_fits(word: u32, mss: u16) -> bool
     ensures { result ≡ word_fits mss word }
 {
-    (word / 65536 <= mss as u32) & (word / 256 % 256 <= 126)
+    (word / 65536 <= u32::from(mss)) & (word / 256 % 256 <= 126)
 }
 
 // The same, and the slot below 128.

@@ -1,24 +1,21 @@
 // What is no list: counts, settings, round trip, probe clock and congestion window.
 ghost use Rattle.std.specs.Prelude.{◌≡◌};
-ghost use Rattle.protocol.specs.Ranges.{mss};
-ghost use Rattle.congestion.specs.Congestions.{fits};
 ghost use Rattle.session.specs.Valid.{timeout_fits, round_trip_fits, probe_fits};
 ghost use Rattle.control.specs.Views.{counted};
 ghost use Rattle.checking.specs.Tests.{numbers_fit};
 
-use congestion::Congestion;
 use control::{Arrival, Clock, Flight};
 use protocol::{Protocol, Settings};
 use timing::{ProbeClock, RoundTrip, round_trip};
 
 // Half of the 32-bit numbers.
-const HALF: u32 = 2147483648;
+const HALF: u32 = 1 << 31;
 
 // A timeout from the mode's least to 60,000.
 pub fn timeout_fits(mode: u8, timeout: u32) -> bool
     ensures { result ≡ timeout_fits mode timeout }
 {
-    (round_trip::least_timeout(mode) <= timeout) & (timeout <= Protocol::TIMEOUT_MOST)
+    (round_trip::least_timeout(mode)..=Protocol::TIMEOUT_MOST).contains(&timeout)
 }
 
 // Smoothed time and variation below 2^31, and the timeout.
@@ -33,7 +30,7 @@ fn probe_fits(probe: ProbeClock) -> bool
     ensures { result ≡ probe_fits probe }
 {
     (probe.wait == 0)
-        | (Protocol::PROBE_WAIT_LEAST <= probe.wait) & (probe.wait <= Protocol::PROBE_WAIT_MOST)
+        | (Protocol::PROBE_WAIT_LEAST..=Protocol::PROBE_WAIT_MOST).contains(&probe.wait)
 }
 
 // Each count is within what its array holds.
@@ -47,14 +44,6 @@ fn counts_fit(flight: Flight, arrival: Arrival) -> bool
         & (arrival.acks <= Protocol::ACKS_MOST)
 }
 
-// The congestion window, by the largest payload.
-fn congestion_fits(settings: Settings, congestion: Congestion) -> bool
-    ensures { result ≡ fits congestion (mss settings) }
-{
-    let most = settings.mss();
-    congestion.fits(most as u32)
-}
-
 // All that is no list.
 pub fn numbers_fit(settings: Settings, flight: Flight, arrival: Arrival, clock: Clock) -> bool
     ensures { result ≡ numbers_fit settings flight arrival clock }
@@ -63,5 +52,6 @@ pub fn numbers_fit(settings: Settings, flight: Flight, arrival: Arrival, clock: 
     let ranges = settings.in_range();
     let trip = round_trip_fits(settings.mode, flight.rtt);
     let probe = probe_fits(clock.probe);
-    counts & ranges & trip & probe & congestion_fits(settings, flight.congestion)
+    let mss = settings.mss();
+    counts & ranges & trip & probe & flight.congestion.fits(mss as u32)
 }

@@ -14,7 +14,7 @@ pub struct Congestion {
 }
 
 // What a flush tells of losses: whether a segment was sent because it was skipped (fast) or due (late), how many skips make a fast
-// retransmission, how many numbers are in flight at its end, and the window that it used.
+// retransmission, how many numbers are in flight at its end, and the window that it used. Both flags may be set.
 #[derive(Clone, Copy)]
 pub struct Losses {
     pub fast: bool,

@@ -55,7 +55,7 @@ fn widened(window: u32, allowance: u32, mss: u32) -> u32
     }
 }
 
-// Growth below the threshold.
+// Growth below the threshold. `Growable` is asked and no invariant of `Congestion`, which lies in the block that C lends.
 #[tactic(auto, unfolding(crate::specs::Congestions::slow_start))]
 fn slow_start(c: Congestion, mss: u32) -> Congestion
     requires { Growable mss c }

@@ -36,7 +36,8 @@ pub writing_below : (a : Result ℕ FileRefusal) → lt_z (writing_code a) (pos 
 writing_below (Ok n) = le-ltb (min n 2147483647) 0 (omega arith)
 writing_below (Err r) = refusal_below r
 
-pub reading_below : (a : Result Settings FileRefusal) (r : ℤ) (before after : Numbers) → Stores a r before after → lt_z r (pos 0) ≡ is_refused_reading a
+pub reading_below : (a : Result Settings FileRefusal) (r : ℤ) (before after : Numbers) → Stores a r before after
+    → lt_z r (pos 0) ≡ is_refused_reading a
 reading_below (Ok c) r before after h = rw h.0
 reading_below (Err q) r before after h = rw h.0 (refusal_below q)
 

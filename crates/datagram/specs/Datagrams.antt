@@ -1,6 +1,30 @@
 -- What a datagram is: why it is refused, or its segments. Definitions.
 -- Assumes nothing.
-use Rattle.std.specs.Prelude.{Bool, true, Option, None, Some, Result, Ok, Err, cond, ◌&&◌, List, [], ◌∷◌, ℕ, zero, suc, ◌+◌, ◌-◌, leb, eqb, length, take, drop}
+use Rattle.std.specs.Prelude.{
+  Bool,
+  true,
+  Option,
+  None,
+  Some,
+  Result,
+  Ok,
+  Err,
+  cond,
+  ◌&&◌,
+  List,
+  [],
+  ◌∷◌,
+  ℕ,
+  zero,
+  suc,
+  ◌+◌,
+  ◌-◌,
+  leb,
+  eqb,
+  length,
+  take,
+  drop,
+}
 use Rattle.wire.specs.Headers.{decode}
 use Rattle.protocol.specs.Protocol.{push, window_tell, header_size, fragment_most}
 use Rattle.wire.specs.declared.Header.{Header}

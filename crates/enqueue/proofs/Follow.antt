@@ -18,10 +18,6 @@ use Rattle.words.specs.Words.{held_in}
 use Rattle.enqueue.specs.Enqueueing.{Marked, Fills, Places, PartsOf, Follows}
 use Rattle.std.specs.Prelude.{Err, Ok}
 
--- slots held, fewer than so many
-pub marked_most : {marks : List ℕ} {k : ℕ} (l : ℕ) → k ≤ l → Marked marks k → Marked marks l
-marked_most l h m = record { now = m.now; free = m.free; most = omega (arith, m.most) }
-
 module _ {s : State} {stream : Bool} {m : ℕ} {queued : List ℕ} {n k : ℕ} {marks : List ℕ} (p : PartsOf s stream m queued n k marks)
     (pool message : List ℕ) {room first : ℕ} (has : room ≡ room_of stream m (held_in queued n)) (takes : first ≡ min (length message) room)
   where
@@ -48,8 +44,8 @@ module _ {s : State} {stream : Bool} {m : ℕ} {queued : List ℕ} {n k : ℕ} {
 
     -- 10
     pub follows_long : 127 * m < length message - first
-        → Follows (sending s pool message) queued n pool (record { answer = Err LongMessage; queued = n }) queued pool
-    follows_long h = rw (long h) (record { answer = refl; count = refl; list = refl; pool_same = refl })
+        → Follows (sending s pool message) queued n pool (Err LongMessage) n queued pool
+    follows_long h = rw (long h) (record { answered = refl; count = refl; list = refl; pool_same = refl })
 
     module _ {count : ℕ} (e : count ≡ segment_count stream m (length message - first)) (h : length message - first ≤ 127 * m) where
       short : ltb (127 * m) (length f.rest) ≡ false
@@ -63,8 +59,8 @@ module _ {s : State} {stream : Bool} {m : ℕ} {queued : List ℕ} {n k : ℕ} {
 
       -- 11
       pub follows_full : k + n ≤ 128 → 128 < k + n + count
-          → Follows (sending s pool message) queued n pool (record { answer = Err NoFreeSlots; queued = n }) queued pool
-      follows_full most g = rw (full most g) (record { answer = refl; count = refl; list = refl; pool_same = refl })
+          → Follows (sending s pool message) queued n pool (Err NoFreeSlots) n queued pool
+      follows_full most g = rw (full most g) (record { answered = refl; count = refl; list = refl; pool_same = refl })
 
       abbrev new : Placed
       new = place stream m used f.pool (cut_as stream m f.rest)
@@ -86,13 +82,13 @@ module _ {s : State} {stream : Bool} {m : ℕ} {queued : List ℕ} {n k : ℕ} {
           → Fills (filled stream m (held_in queued n) pool message) n between pool₁)
           → ((h : Marked marks (128 - count))
           → Places (place stream m h.now pool₁ (pieces m count (drop first message))) between n after r pool')
-          → Follows (sending s pool message) queued n pool (record { answer = Ok tt; queued = r }) after pool'
+          → Follows (sending s pool message) queued n pool (Ok tt) r after pool'
       follows_placed g between pool₁ after r pool' x y =
           let a = (rw (← p.queue) at (x stream has)) in
           let b = (rw (← cuts, a.pool_is) at (y (record { now = used; free = p.free; most = omega (arith, p.held) }))) in
           rw (placed g)
           (record {
-            answer = refl;
+            answered = refl;
             whole = b.whole;
             fits = b.fits;
             list = b.list ∙ ap (λ (l : List Held). l ++ new.segments) a.list;

@@ -110,7 +110,3 @@ module _ (m : ℕ) (ws : List ℕ) (n room : ℕ) (pool message : List ℕ) (who
 pub fill_end : {h : Held} (w m room k size : ℕ) → h ≡ unpack w → (unpack w).slot < 128 → (unpack w).len + room ≤ m → k ≤ room → 128 * m ≤ size
     → (h.slot * m + m ≤ size) × (h.len + k ≤ m)
 fill_end {h} w m room k size e low short few long = rw e (slot_end (unpack w).slot m size low long, omega arith)
-
--- a slot of a word is a byte
-pub low_byte : {h : Held} (w : ℕ) → h ≡ unpack w → h.slot < 256
-low_byte w e = rw e (omega arith)

@@ -32,14 +32,6 @@ drop_least (suc k) (x ∷ l) = rw suc-min-suc (drop_least k l)
 pub slot_end : (slot m n : ℕ) → slot < 128 → 128 * m ≤ n → slot * m + m ≤ n
 slot_end slot m n h g = let e : suc slot * m ≤ 128 * m = mul-le-mul_right m h in omega (arith, suc-mul slot m)
 
-pub slot_below : (slot m : ℕ) {n w : ℕ} → slot < 128 → 128 * m ≤ n → n < w → slot * m < w
-slot_below slot m {n} h g b = omega (arith, slot_end slot m n h g)
-
--- the part that is copied: `total` bytes of the message, `room` bytes of the pool
-pub part_within : (m at len total room slot : ℕ) → at ≤ total → slot < 128 → 128 * m ≤ room → len ≡ min m (total - at)
-    → (at + len ≤ total) × (slot * m + len ≤ room)
-part_within m at len total room slot h s g e = (omega arith, omega (arith, slot_end slot m room s g))
-
 module _ {m : ℕ} {message : List ℕ} {at slot : ℕ} {before : List ℕ} {len : ℕ} {after : List ℕ} where
   -- the part that is copied is the payload
   pub part_stored : len ≡ min m (length message - at) → after ≡ sets before (slot * m) (part message at len)

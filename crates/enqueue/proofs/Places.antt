@@ -1,12 +1,13 @@
 -- The loop that places a message's payloads: what is still to be placed, placed from here, completes the whole.
 -- Assumes nothing.
-use mathlib.Core.Path.{◌≡◌, refl, sym, ap, ◌∙◌}
-use mathlib.Core.Bool.{Bool, true, false, cond}
-use mathlib.Core.List.{List, [], ◌∷◌, ◌++◌, map}
-use Prim.Native.Nat.{ℕ, zero, suc, ◌+◌, ◌-◌, ◌*◌, ◌≤◌, ◌<◌}
+use mathlib.Core.Path.{◌≡◌, refl, sym, ◌∙◌}
+use mathlib.Core.Bool.{Bool, cond}
+use mathlib.Core.List.{List, ◌∷◌, ◌++◌, map}
+use Prim.Native.Nat.{ℕ, suc, ◌+◌, ◌-◌, ◌*◌, ◌≤◌, ◌<◌}
 use native.Mathlib.Omega.{arith}
 use lib.ListN.{length, take, drop, set, length-map}
 use lib.Seq.{sets}
+use Rattle.std.proofs.lemmas.List.{take-map, map-set}
 use Rattle.lists.specs.declared.Held.{Held}
 use Rattle.lists.proofs.Loops.{Written, written_start, written_put, written_done}
 use Rattle.session.specs.Slots.{lowest_free}
@@ -18,23 +19,7 @@ use Rattle.marks.proofs.Frees.{free_lowest_of, free_low_of, free_next}
 use Rattle.enqueue.specs.Enqueueing.{Marked, Stored, Places}
 use Rattle.enqueue.proofs.Payloads.{length_pieces, stored_rest}
 
--- ---- words of an array, as the segments that they stand for
-
-take_map : {A B : Type 0} (f : A → B) (n : ℕ) (l : List A) → take n (map f l) ≡ map f (take n l)
-take_map f zero l = refl
-take_map f (suc n) [] = refl
-take_map f (suc n) (x ∷ l) = ap (λ (r : List _). f x ∷ r) (take_map f n l)
-
-set_map : {A B : Type 0} (f : A → B) (l : List A) (i : ℕ) (a : A) → set (map f l) i (f a) ≡ map f (set l i a)
-set_map f [] i a = refl
-set_map f (x ∷ l) zero a = refl
-set_map f (x ∷ l) (suc i) a = ap (λ (r : List _). f x ∷ r) (set_map f l i a)
-
 -- ---- the loop
-
-pub fragment_most_lem : (stream : Bool) (left f : ℕ) → f ≡ cond stream 0 left → f ≤ left
-fragment_most_lem true left f e = omega arith
-fragment_most_lem false left f e = omega arith
 
 -- `goal` is what is to be placed in all, behind `front`. The marks are those of the slots held at first. n segments are in the array of
 -- words, free slots are looked for from `from` on, and so many payloads of `rest` are left.
@@ -55,7 +40,7 @@ placing_start {stream = stream} {m = m} {ws = ws} {pool = pool} {message = messa
       now = h.now;
       free = h.free;
       room = omega (arith, h.most);
-      written = rw (take_map unpack n ws) at (written_start {l = map unpack ws}
+      written = rw (take-map unpack n ws) at (written_start {l = map unpack ws}
           (place stream m h.now pool (pieces m count message)).segments n (length-map ws unpack ∙ e) b);
       pools = refl;
     }
@@ -71,7 +56,7 @@ module _ {stream : Bool} {m : ℕ} {marks : List ℕ} {goal : Placed} {front : L
       record {
         whole = sym (length-map ws unpack) ∙ p.written.whole;
         fits = w.fits;
-        list = sym (take_map unpack n ws) ∙ w.list ∙ rw f refl;
+        list = sym (take-map unpack n ws) ∙ w.list ∙ rw f refl;
         pool = rw e at p.pools;
       }
 
@@ -102,7 +87,7 @@ module _ {stream : Bool} {m : ℕ} {marks : List ℕ} {goal : Placed} {front : L
             now = slot ∷ p.now;
             free = free_next p.free slot e (omega arith) (slot ∷ p.now) (λ i. refl);
             room = omega (arith, p.room);
-            written = rw (← u, set_map unpack ws n word) at (written_put h (rw q at p.written));
+            written = rw (← u, ← map-set unpack ws n word) at (written_put h (rw q at p.written));
             pools = rw q at p.pools;
           }
 
@@ -113,3 +98,9 @@ pub placing_next : {stream : Bool} {m : ℕ} {marks : List ℕ} {goal : Placed} 
     → Stored m message at slot pool len pool' → unpack word ≡ record { slot = slot; len = len; fragment = cond stream 0 (left - 1) }
     → Placing stream m marks goal front (set ws n word) pool' (drop (at + len) message) (n + 1) (slot + 1) (left - 1)
 placing_next word p some e h s u = rw (stored_rest s, s.pool) (next p some e word (u ∙ rw s.size refl) h)
+
+-- the same, counted another way
+pub placing_as : {stream : Bool} {m : ℕ} {marks : List ℕ} {goal : Placed} {front : List Held} {ws pool rest : List ℕ} {n n' from left left' : ℕ}
+    → n' ≡ n → left' ≡ left → Placing stream m marks goal front ws pool rest n from left
+    → Placing stream m marks goal front ws pool rest n' from left'
+placing_as e f p = rw (e, f) p

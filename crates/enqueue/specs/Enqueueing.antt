@@ -11,7 +11,7 @@ use Rattle.session.specs.State.{State, Outcome, refused, done, send_held, slots}
 use Rattle.session.specs.Sending.{Placed, Filled, Sends}
 use Rattle.words.specs.Words.{unpack, held_in}
 use Rattle.marks.specs.Marks.{Free}
-use Rattle.enqueue.specs.declared.Enqueued.{Enqueued}
+use Rattle.answers.specs.Answers.{Answer, Count}
 
 -- the marks are those of slots held, k at most
 pub record Marked (marks : List ℕ) (k : ℕ) : Type 0 where
@@ -79,21 +79,31 @@ pub record PartsOf (s : State) (stream : Bool) (m : ℕ) (queued : List ℕ) (n 
   pub free : Free marks (slots (send_held s.sending)) 0
 
 -- a refusal: its number alone, the list and the pool as they were
-pub record Unchanged (r : Refusal) (before : List ℕ) (n : ℕ) (pool : List ℕ) (e : Enqueued) (after pool' : List ℕ) : Type 0 where
-  pub answer : e.answer ≡ Err r
-  pub count : e.queued ≡ n
-  pub list : after ≡ before
-  pub pool_same : pool' ≡ pool
+pub record Unchanged (r : Refusal) (before : List ℕ) (n : ℕ) (pool : List ℕ) (answer : Answer) (queued : ℕ) (after pool' : List ℕ) : Type 0
+  where
+    pub answered : answer ≡ Err r
+    pub count : queued ≡ n
+    pub list : after ≡ before
+    pub pool_same : pool' ≡ pool
 
 -- an accepted message: the list and the pool after it
-pub record Queued (x : Sends) (e : Enqueued) (after pool' : List ℕ) : Type 0 where
-  pub answer : e.answer ≡ Ok tt
+pub record Queued (x : Sends) (answer : Answer) (queued : ℕ) (after pool' : List ℕ) : Type 0 where
+  pub answered : answer ≡ Ok tt
   pub whole : length after ≡ 128
-  pub fits : e.queued ≤ 128
-  pub list : held_in after e.queued ≡ x.state.sending.queued
+  pub fits : queued ≤ 128
+  pub list : held_in after queued ≡ x.state.sending.queued
   pub pool : pool' ≡ x.pool
 
 -- what sending gives
-abbrev pub Follows : Outcome Sends → List ℕ → ℕ → List ℕ → Enqueued → List ℕ → List ℕ → Type 0
-Follows (refused r) before n pool e after pool' = Unchanged r before n pool e after pool'
-Follows (done x) before n pool e after pool' = Queued x e after pool'
+abbrev pub Follows : Outcome Sends → List ℕ → ℕ → List ℕ → Answer → ℕ → List ℕ → List ℕ → Type 0
+Follows (refused r) before n pool answer queued after pool' = Unchanged r before n pool answer queued after pool'
+Follows (done x) before n pool answer queued after pool' = Queued x answer queued after pool'
+
+-- of what enqueueing answers, with n queued before: the answer, and how many are queued then
+abbrev pub answer_of : Count → Answer
+answer_of (Ok k) = Ok tt
+answer_of (Err r) = Err r
+
+abbrev pub queued_then : ℕ → Count → ℕ
+queued_then n (Ok k) = k
+queued_then n (Err r) = n

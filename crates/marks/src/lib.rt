@@ -4,17 +4,12 @@
 // search for the next free slot goes on behind the last one taken.
 #![tactic(auto)]
 
-ghost use Rattle.std.specs.Prelude.{◌≡◌, true, ◌≤◌, ◌<◌, ◌%◌, map};
+ghost use Rattle.std.specs.Prelude.{◌≡◌, true, ◌≤◌, ◌<◌, map};
 ghost use Rattle.slots.specs.Slots.{slots_of, all_below};
 ghost use Rattle.words.specs.Words.{unpack};
 ghost use Rattle.marks.specs.Marks.{Marks, next_free};
 
-// The slot of a word.
-fn slot_of(word: u32) -> usize
-    ensures { (result ≡ word % 256) × (result < 256) }
-{
-    (word % 256) as usize
-}
+use lists::Held;
 
 // The slots of words are marked. Whether none of them was marked before, and none stands twice.
 pub fn mark<const S: usize>(marks: &mut [u8; S], words: &[u32]) -> bool
@@ -23,7 +18,8 @@ pub fn mark<const S: usize>(marks: &mut [u8; S], words: &[u32]) -> bool
 {
     let mut once = true;
     for word in words {
-        let mark = &mut marks[slot_of(*word)];
+        let held = Held::from(*word);
+        let mark = &mut marks[usize::from(held.slot)];
         once = once & (*mark == 0);
         *mark = 1;
     }

@@ -71,6 +71,10 @@ module _ (queued : List ℕ) (k n next : ℕ) (ws₀ ts₀ : List ℕ) (rs₀ : 
               (written_put (omega (arith, w.place)) (rw (view_next queued k i 0 h (omega arith)) at w.written));
         }
 
+    -- the same, counted another way
+    pub numbering_as : (j' : ℕ) → j' ≡ j → Numbering queued k n next ws₀ ts₀ rs₀ ws ts rs number i j'
+    numbering_as j' e = rw e w
+
     -- all are
     pub numbering_done : k ≤ i → SentFront ws ts rs (n + k) (sent_in ws₀ ts₀ rs₀ n ++ numbered next (held_in queued k))
     unfolding numbered

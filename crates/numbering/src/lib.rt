@@ -1,7 +1,7 @@
 // Queued segments get numbers, in place: their words move behind those of the outstanding segments.
 #![tactic(auto)]
 
-ghost use Rattle.std.specs.Prelude.{◌≡◌, ◌++◌, ◌+◌, ◌≤◌, min, length};
+ghost use Rattle.std.specs.Prelude.{◌≡◌, ◌++◌, ◌+◌, ◌≤◌, length};
 ghost use Rattle.session.specs.Flushing.{numbered};
 ghost use Rattle.words.specs.Words.{held_in};
 ghost use Rattle.numbering.specs.Sents.{sent_in, SentFront};
@@ -11,22 +11,12 @@ use control::Flight;
 use protocol::serial;
 use timing::Record;
 
-fn least(a: usize, b: usize) -> usize
-    ensures { result ≡ min a b }
-{
-    if a < b { a } else { b }
-}
-
 // How many of the queued segments are numbered, with this window.
 fn numbered_count(queued: usize, window: u32, next: u32, una: u32) -> usize
     ensures { result ≡ count_of queued window next una }
 {
-    let most = window as usize;
-    let apart = serial::difference(next, una) as usize;
-    if most < apart {
-        return 0;
-    }
-    least(queued, most - apart)
+    let apart = serial::difference(next, una);
+    queued.min(window.saturating_sub(apart) as usize)
 }
 
 // The record of a segment that gets this number: it was never sent.
@@ -51,22 +41,17 @@ fn number_first(
     records: &mut [Record; 32],
     next: u32,
 )
-    requires { (length queued.now ≡ 128) × (length outstanding.old ≡ 32) × (length transmissions.old ≡ 32)
-        × (length records.old ≡ 32) × (n + k ≤ 32) }
+    requires { n + k ≤ 32 }
     ensures { SentFront outstanding.new transmissions.new records.new (n + k)
         (sent_in outstanding.old transmissions.old records.old n
         ++ numbered next (held_in queued.now k)) }
 {
     let mut number = next;
-    let mut i: usize = 0;
-    let mut j = n;
-    while i < k {
-        outstanding[j] = queued[i];
-        transmissions[j] = 0;
-        records[j] = numbered_record(number);
+    for i in 0..k {
+        outstanding[n + i] = queued[i];
+        transmissions[n + i] = 0;
+        records[n + i] = numbered_record(number);
         number = serial::sum(number, 1);
-        i += 1;
-        j += 1;
     }
 }
 
@@ -97,9 +82,10 @@ pub fn number(
         flight.next,
     );
     words::drop_first(queued, flight.queued, k);
-    let mut after = flight;
-    after.next = serial::sum(flight.next, k as u32);
-    after.queued = flight.queued - k;
-    after.outstanding = flight.outstanding + k;
-    after
+    Flight {
+        next: serial::sum(flight.next, k as u32),
+        queued: flight.queued - k,
+        outstanding: flight.outstanding + k,
+        ..flight
+    }
 }

@@ -95,7 +95,8 @@ impl Protocol {
 
     pub const CONGESTION_THRESHOLD_MOST: u32 = 16;
 
-    // The settings that a link is opened with; whether they are in range is asked by `in_range`.
+    // The settings that a link is opened with; whether they are in range is asked by `in_range`. One argument for each field, as
+    // docs/DECISIONS.md promises.
     pub fn settings(
         conv: u32,
         mtu: u16,
@@ -128,7 +129,7 @@ impl Protocol {
 }
 
 // The settings of a link: conversation, largest datagram, interval, mode, threshold of a fast retransmission, stream mode (1, else 0), and
-// whether flushes go by the congestion window (1, else 0).
+// whether flushes go by the congestion window (1, else 0). The last are numbers and no enums: the block that C lends may show any.
 #[repr(C)]
 #[derive(Clone, Copy)]
 pub struct Settings {

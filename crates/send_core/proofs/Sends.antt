@@ -39,7 +39,6 @@ use Rattle.control.specs.ViewLaws.{counts}
 use Rattle.checking.specs.Verdicts.{Checked, verdict_of}
 use Rattle.checking.specs.VerdictLaws.{Passes, refused_by_lem, passed_by}
 use Rattle.checking.proofs.Halves.{send_slots_lem}
-use Rattle.enqueue.specs.declared.Enqueued.{Enqueued}
 use Rattle.enqueue.specs.Enqueueing.{Enqueueable, PartsOf, Follows}
 use Rattle.promises.specs.Outcomes.{sends_with}
 use Rattle.promises.specs.Cores.{SendCore}
@@ -203,15 +202,15 @@ module _ (s : Settings) (f : Flight) (a : Arrival) (k : Clock) (x : Arrays) (rs 
   unfolding state_of
   after_state c q = refl
 
-  put_back : (pool m pool' q : List ℕ) (e : Enqueued) (o : Outcome Sends) → sending (state_of link rs acks) pool m ≡ o
-      → Follows o x.queued f.queued pool e q pool' → counts_fit link ≡ true
-      → SendCore o link rs acks pool e.answer (link_of s (with_count f e.queued) a k (with_words x q)) pool'
-  put_back pool m pool' q e (refused r) i h c = (h.answer, rw (h.count, h.list) refl, h.pool_same)
-  put_back pool m pool' q e (done y) i h c =
+  put_back : (pool m pool' q : List ℕ) (b : Answer) (n : ℕ) (o : Outcome Sends) → sending (state_of link rs acks) pool m ≡ o
+      → Follows o x.queued f.queued pool b n q pool' → counts_fit link ≡ true
+      → SendCore o link rs acks pool b (link_of s (with_count f n) a k (with_words x q)) pool'
+  put_back pool m pool' q b n (refused r) i h c = (h.answered, rw (h.count, h.list) refl, h.pool_same)
+  put_back pool m pool' q b n (done y) i h c =
       record {
-        answer = h.answer;
-        counts = counted e.queued q h.fits c;
-        state = after_state e.queued q ∙ ap (with_queued (state_of link rs acks)) h.list ∙ sym
+        answer = h.answered;
+        counts = counted n q h.fits c;
+        state = after_state n q ∙ ap (with_queued (state_of link rs acks)) h.list ∙ sym
             (queued_alone (state_of link rs acks) pool m y i);
         slots = refl;
         pool = h.pool;
@@ -223,6 +222,5 @@ module _ (s : Settings) (f : Flight) (a : Arrival) (k : Clock) (x : Arrays) (rs 
       → SendCore (sending (state_of link rs acks) pool message) link rs acks pool r.answer (link_of s r.flight a k (with_words x q))
       pool'
   sent p stream m mode size pool message r q pool' h =
-      let e : Enqueued = record { answer = r.answer; queued = r.flight.queued } in
-      rw h.count_alone (put_back pool message pool' q e (sending (state_of link rs acks) pool message) refl
+      rw h.count_alone (put_back pool message pool' q r.answer r.flight.queued (sending (state_of link rs acks) pool message) refl
       (h.follows (state_of link rs acks) (parts p mode size)) p.counts_fit_lem)

@@ -31,7 +31,7 @@ pub record Enqueues (stream : Bool) (m : ℕ) (f : Flight) (queued marks pool me
   where
     pub count_alone : r.flight ≡ with_count f r.flight.queued
     pub follows : (s : State) → PartsOf s stream m queued f.queued f.outstanding marks
-        → Follows (sending s pool message) queued f.queued pool (record { answer = r.answer; queued = r.flight.queued }) queued' pool'
+        → Follows (sending s pool message) queued f.queued pool r.answer r.flight.queued queued' pool'
 
 -- by the block before and after it
 abbrev pub SendLeaves : Link → List Record → ℕ → List ℕ → List ℕ → List ℕ → List ℕ → Answer → Link → List ℕ → Type 0

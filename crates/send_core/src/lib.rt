@@ -32,7 +32,7 @@ fn send_checked(
     ensures { Enqueues stream mss flight queued.old marks.now pool.old message.now
         result queued.new pool.new }
 {
-    let result = enqueue::enqueue(
+    let sent = enqueue::enqueue(
         stream,
         mss,
         queued,
@@ -42,12 +42,15 @@ fn send_checked(
         pool,
         message,
     );
-    let answer = result.answer;
-    let mut after = flight;
-    after.queued = result.queued;
-    Submitted {
-        answer,
-        flight: after,
+    match sent {
+        Ok(queued) => Submitted {
+            answer: Ok(()),
+            flight: Flight { queued, ..flight },
+        },
+        Err(refusal) => Submitted {
+            answer: Err(refusal),
+            flight,
+        },
     }
 }
 

@@ -20,7 +20,23 @@ use Rattle.protocol.specs.declared.Settings.{Settings}
 use Rattle.wire.specs.LittleEndian.{bytes_of, number_at, AllBytes}
 use Rattle.wire.specs.LittleEndianLaws.{number_of_bytes, bytes_of_number, length_bytes_of}
 use Rattle.wire.specs.Stores.{sets_append}
-use Rattle.settings_file.specs.Files.{fits_first, magic, front, back, added, first_of, second_of, file_of, write_into, Writes, has_magic, settings_at, read_first, read_second, read_from}
+use Rattle.settings_file.specs.Files.{
+  fits_first,
+  magic,
+  front,
+  back,
+  added,
+  first_of,
+  second_of,
+  file_of,
+  write_into,
+  Writes,
+  has_magic,
+  settings_at,
+  read_first,
+  read_second,
+  read_from,
+}
 use Rattle.settings_file.specs.declared.FileRefusal.TheVariants.{
   ShortPart,
   SettingOutOfRange,
@@ -60,7 +76,8 @@ settings_of_first c r stream congestion = λ i. record {
   congestion = sym congestion i;
 }
 
-settings_of_second : (c : Settings) → SettingsFit c → settings_at (second_of c) (number_at 1 (second_of c) 15) (number_at 1 (second_of c) 16) ≡ c
+settings_of_second : (c : Settings) → SettingsFit c
+    → settings_at (second_of c) (number_at 1 (second_of c) 15) (number_at 1 (second_of c) 16) ≡ c
 unfolding settings_at second_of front back added bytes_of number_at
 settings_of_second c r = λ i. record {
   conv = number_of_bytes 4 c.conv r.conv i;
@@ -222,7 +239,8 @@ module _ (f : List ℕ) (b : AllBytes f) where
   first_of_lem long m v =
       rw (front_of 1 (omega (arith, long)) m v, back_of 0 0 (omega (arith, long)), join 5 10 0) (take_all 15 f (omega (arith, long)))
 
-  second_of_lem : length f ≡ 17 → has_magic f ≡ true → number_at 2 f 3 ≡ 2 → second_of (settings_at f (number_at 1 f 15) (number_at 1 f 16)) ≡ f
+  second_of_lem : length f ≡ 17 → has_magic f ≡ true → number_at 2 f 3 ≡ 2
+      → second_of (settings_at f (number_at 1 f 15) (number_at 1 f 16)) ≡ f
   unfolding second_of
   second_of_lem long m v =
       rw (

@@ -17,6 +17,7 @@ pub struct Lengths {
 }
 
 // Whether these parts are as long as stated, for any mtu that a block can show.
+#[tactic(auto, unfolding(crate::specs::Sizes::enough))]
 pub fn enough(settings: Settings, lent: Lengths) -> bool
     ensures { result ≡ enough (mss settings) lent }
 {
@@ -28,6 +29,7 @@ pub fn enough(settings: Settings, lent: Lengths) -> bool
 }
 
 // Whether the parts lent to a flush are: those, its output and its lengths.
+#[tactic(auto, unfolding(crate::specs::Sizes::enough_to_flush))]
 pub fn enough_to_flush(settings: Settings, lent: Lengths, output: usize, lengths: usize) -> bool
     ensures { result ≡ enough_to_flush (mss settings) lent output lengths }
 {

@@ -21,11 +21,15 @@ pub const VALUE_LENGTH: usize = 33;
 
 pub const VALUE: usize = 34;
 
-// Whether every byte is zero.
+// Whether every byte is zero. It doesn't stop at another one, and so many bytes are tested at once.
 fn all_zero(s: &[u8]) -> bool
     ensures { result ≡ list_all is_zero s.now }
 {
-    s.iter().all(|b| *b == 0)
+    let mut all = true;
+    for b in s {
+        all &= *b == 0;
+    }
+    all
 }
 
 // The name in an entry: as many bytes as its length says, or as there are.

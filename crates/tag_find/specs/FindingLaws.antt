@@ -1,6 +1,29 @@
 -- Laws of `Findings`: the tests in turn, and that a value lies in its table.
 -- Assumes nothing.
-use Rattle.std.specs.Prelude.{◌≡◌, refl, Bool, true, false, cond, ◌&&◌, List, ℕ, Option, Some, None, Ok, Err, ◌+◌, ◌*◌, ◌≤◌, ◌<◌, eqb, length, drop, get_or}
+use Rattle.std.specs.Prelude.{
+  ◌≡◌,
+  refl,
+  Bool,
+  true,
+  false,
+  cond,
+  ◌&&◌,
+  List,
+  ℕ,
+  Option,
+  Some,
+  None,
+  Ok,
+  Err,
+  ◌+◌,
+  ◌*◌,
+  ◌≤◌,
+  ◌<◌,
+  eqb,
+  length,
+  drop,
+  get_or,
+}
 use Rattle.std.proofs.Common.{◌⊎◌, inl, inr, sym, ap, subst, ◌∙◌, arith, get_or-take, get_or-drop}
 use Rattle.std.proofs.Math.Bool.{and-false}
 use borrow.Author.Tests.{eq-eqb, ne_eqb, eqb-true}
@@ -29,7 +52,8 @@ value_at_lem t i h len q =
 -- ---- the tests, in turn
 
 module _ (own defaults name : List ℕ) where
-  pub other_size : (length own ≡ 6272 → ⊥) ⊎ ((length own ≡ 6272) × (length defaults ≡ 6272 → ⊥)) → Err OtherSize ≡ find_in own defaults name
+  pub other_size : (length own ≡ 6272 → ⊥) ⊎ ((length own ≡ 6272) × (length defaults ≡ 6272 → ⊥))
+      → Err OtherSize ≡ find_in own defaults name
   unfolding find_in
   other_size (inl h) = rw (ne_eqb (length own) 6272 h)
   other_size (inr h) = rw (ne_eqb (length defaults) 6272 h.1, and-false)
@@ -53,7 +77,8 @@ module _ (own defaults name : List ℕ) where
         unfolding find_in
         no_name n = rw (eq-eqb (length own) 6272 h, eq-eqb (length defaults) 6272 k, s.table, t.table, n)
 
-        pub looked_for : {p : Option Place} → is_name name ≡ true → p ≡ first_of (entries_in own) (entries_in defaults) here.named behind.named
+        pub looked_for : {p : Option Place} → is_name name ≡ true
+            → p ≡ first_of (entries_in own) (entries_in defaults) here.named behind.named
             → Ok p ≡ find_in own defaults name
         unfolding find_in
         looked_for n r =

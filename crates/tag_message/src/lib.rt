@@ -47,11 +47,15 @@ impl TagRefusal {
     }
 }
 
-// Whether every byte is one of 33 to 126.
+// Whether every byte is one of 33 to 126. It doesn't stop at another one, and so many bytes are tested at once.
 pub fn all_printable(s: &[u8]) -> bool
     ensures { result ≡ list_all is_printable s.now }
 {
-    s.iter().all(u8::is_ascii_graphic)
+    let mut all = true;
+    for b in s {
+        all &= b.is_ascii_graphic();
+    }
+    all
 }
 
 // Whether these bytes are a name.

@@ -1,6 +1,39 @@
 -- Laws of `Surveys`: the fingerprints met, and the steps of the pass.
 -- Assumes nothing.
-use Rattle.std.specs.Prelude.{◌≡◌, refl, Bool, true, false, cond, not, ◌&&◌, List, [], ◌∷◌, ◌++◌, ℕ, Option, Some, None, IfSome, Result, Ok, Err, IsErrAnd, ◌+◌, ◌≤◌, ◌<◌, eqb, leb, length, take, drop, get_or, position, All}
+use Rattle.std.specs.Prelude.{
+  ◌≡◌,
+  refl,
+  Bool,
+  true,
+  false,
+  cond,
+  not,
+  ◌&&◌,
+  List,
+  [],
+  ◌∷◌,
+  ◌++◌,
+  ℕ,
+  Option,
+  Some,
+  None,
+  IfSome,
+  Result,
+  Ok,
+  Err,
+  IsErrAnd,
+  ◌+◌,
+  ◌≤◌,
+  ◌<◌,
+  eqb,
+  leb,
+  length,
+  take,
+  drop,
+  get_or,
+  position,
+  All,
+}
 use Rattle.std.proofs.Common.{sym, ap, ◌∙◌, arith, add-one, drop_of_length-le, take-suc, take_all, length-drop, length-take, drop-cons}
 use Rattle.std.specs.List.{list_all, list_any}
 use Rattle.std.specs.Option.{ok_or}

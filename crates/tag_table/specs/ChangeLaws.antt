@@ -1,6 +1,31 @@
 -- Laws of `Changes`: the answers in turn, and what a store leaves.
 -- Assumes nothing.
-use Rattle.std.specs.Prelude.{◌≡◌, refl, Bool, true, false, cond, List, [], ℕ, Option, Some, None, is_some, Ok, Err, ◌+◌, ◌-◌, ◌*◌, ◌<◌, eqb, length, take, drop, position}
+use Rattle.std.specs.Prelude.{
+  ◌≡◌,
+  refl,
+  Bool,
+  true,
+  false,
+  cond,
+  List,
+  [],
+  ℕ,
+  Option,
+  Some,
+  None,
+  is_some,
+  Ok,
+  Err,
+  ◌+◌,
+  ◌-◌,
+  ◌*◌,
+  ◌<◌,
+  eqb,
+  length,
+  take,
+  drop,
+  position,
+}
 use Rattle.std.proofs.Common.{sym, ap, subst, ◌∙◌, arith}
 use Rattle.std.specs.Option.{ok_or, option_or}
 use borrow.Author.Tests.{eq-eqb}
@@ -69,7 +94,8 @@ module _ (name t : List ℕ) (formed : Bool) (place : Option ℕ) (none : TagRef
       there = record { named = place_of name (entries_in t); free = position is_free (entries_in t) }
 
       go : (x y : Bool) → cond x (ok_or (cond y (Some there) None) NotATable) (Err OtherSize) ≡ Err r
-          → Changes (cond x (cond y (cond formed (cond (is_some place) (Ok tt) (Err none)) (Err NotATag)) (Err NotATable)) (Err OtherSize)) es t (Err r) t
+          → Changes (cond x (cond y (cond formed (cond (is_some place) (Ok tt) (Err none)) (Err NotATag)) (Err NotATable)) (Err OtherSize))
+          es t (Err r) t
       go true true h = cc
       go true false h = let q : NotATable ≡ r = cc in record { answered = ap Err (sym q); leaves = refl }
       go false y h = let q : OtherSize ≡ r = cc in record { answered = ap Err (sym q); leaves = refl }
@@ -79,7 +105,8 @@ module _ (name t : List ℕ) (formed : Bool) (place : Option ℕ) (none : TagRef
     unfolding answer_to
     refuses_form f = record { answered = rw (eq-eqb (length t) 6272 s.size, s.table, f); leaves = refl }
 
-    pub refuses_place : {es : List (List ℕ)} {r : TagRefusal} → formed ≡ true → ok_or place none ≡ Err r → Changes (answer_to t formed place none) es t (Err r) t
+    pub refuses_place : {es : List (List ℕ)} {r : TagRefusal} → formed ≡ true → ok_or place none ≡ Err r
+        → Changes (answer_to t formed place none) es t (Err r) t
     unfolding answer_to
     refuses_place {r = r} f p = record { answered = rw (eq-eqb (length t) 6272 s.size, s.table, f) (go place p); leaves = refl }
       where
@@ -91,7 +118,8 @@ module _ (name t : List ℕ) (formed : Bool) (place : Option ℕ) (none : TagRef
         go (Some i) e = cc
 
     -- what is stored at a place
-    pub stored : {at : ℕ} (e after : List ℕ) → formed ≡ true → Placed name t place at → length e ≡ 98 → after ≡ sets t (98 * at) e → Changes (answer_to t formed place none) (replaced (entries_in t) place e) t (Ok tt) after
+    pub stored : {at : ℕ} (e after : List ℕ) → formed ≡ true → Placed name t place at → length e ≡ 98 → after ≡ sets t (98 * at) e
+        → Changes (answer_to t formed place none) (replaced (entries_in t) place e) t (Ok tt) after
     unfolding answer_to
     stored {at} e after f p l w = record {
       answered = rw (eq-eqb (length t) 6272 s.size, s.table, f, p.is);
@@ -117,7 +145,8 @@ unfolding answer_to is_tag is_name
 not_taken m t a after e p =
     record {
       answered = rw e p.answered;
-      leaves = never_done t (place_for [] (entries_in t)) Full (with_tag [] [] (entries_in t)) (with_tag (name_in m) (value_in m) (entries_in t)) a
+      leaves = never_done t (place_for [] (entries_in t)) Full (with_tag [] [] (entries_in t))
+          (with_tag (name_in m) (value_in m) (entries_in t)) a
           after p.answered p.leaves;
     }
 

@@ -25,7 +25,8 @@ module _ (name t : List ℕ) where
   other_named : (i : ℕ) → Some i ≡ place_of name (entries_in t) → Other name (entry_at (entries_in t) i) → ⊥
   unfolding place_of is_named
   other_named i e o =
-      o.differs ((bytes_eq-Decides name (name_of (entry_at (entries_in t) i))).0 (position-Some (is_named name) (entries_in t) i [] (sym e)).1)
+      o.differs ((bytes_eq-Decides name (name_of (entry_at (entries_in t) i))).0
+      (position-Some (is_named name) (entries_in t) i [] (sym e)).1)
 
   other_free : (i : ℕ) → Some i ≡ position is_free (entries_in t) → Other name (entry_at (entries_in t) i) → ⊥
   other_free i e o = cc (o.used, (position-Some is_free (entries_in t) i [] (sym e)).1)

@@ -41,10 +41,12 @@ impl Number for u16 {
 
     ghost value = { λ x. x };
 
+    #[tactic(auto, using(crate::specs::Stores::part_stored, crate::specs::LittleEndianLaws::le_16))]
     fn put(self, out: &mut [u8], at: usize) {
         out[at..at + 2].copy_from_slice(&self.to_le_bytes());
     }
 
+    #[tactic(auto, unfolding(crate::specs::LittleEndian::number_at))]
     fn read(s: &[u8], at: usize) -> u16 {
         u16::from_le_bytes([s[at], s[at + 1]])
     }
@@ -55,10 +57,12 @@ impl Number for u32 {
 
     ghost value = { λ x. x };
 
+    #[tactic(auto, using(crate::specs::Stores::part_stored, crate::specs::LittleEndianLaws::le_32))]
     fn put(self, out: &mut [u8], at: usize) {
         out[at..at + 4].copy_from_slice(&self.to_le_bytes());
     }
 
+    #[tactic(auto, unfolding(crate::specs::LittleEndian::number_at))]
     fn read(s: &[u8], at: usize) -> u32 {
         u32::from_le_bytes([s[at], s[at + 1], s[at + 2], s[at + 3]])
     }

@@ -1,60 +1,43 @@
 -- `remaining` writes the segments that stay to the front, with their transmissions and records.
-use mathlib.Core.Path.{sym, ap, ◌∙◌}
-use mathlib.Core.List.{List}
+use mathlib.Core.Path.{sym, ◌∙◌}
 use borrow.Author.Rules.{rules}
 use lib.ListN.{length-set}
-use Rattle.lists.specs.Joining.{joined}
-use Rattle.lists.specs.Acknowledging.{filter, first_number_or}
-use Rattle.lists.specs.declared.Sent.{Sent}
 use Rattle.lists.proofs.Loops.{packed_start, packed_done}
 use Rattle.lists.proofs.Writes.{select_end}
 use Rattle.records.specs.Tables.{blank}
-use Rattle.words.specs.Words.{outstanding_in}
-use Rattle.acknowledge.specs.Flights.{JoinedIn}
-use Rattle.acknowledge.specs.Hearing.{stays_by}
-use Rattle.acknowledge.proofs.Hearing.{first_is}
 use Rattle.acknowledge.proofs.Removal.{beside_length, beside_front, in_front_lem, removal_stays, removal_drops}
 use Rattle.acknowledge.proofs.remaining.Goals as goal
 
 pub loop-i-init : goal.loop-i-init
 loop-i-init c =
-    let many = c.requires.2 in
-    let long = beside_length _ _ _ _ c.requires.0 c.requires.1 many in
-    (c.requires.0, c.requires.1, c.requires.2, packed_start _ _ _ (search rules) (search rules) (search rules) long)
+    let long = beside_length _ _ _ _ c.told-words c.told-transmissions c.told-records in
+    (c.told-words, c.told-transmissions, c.told-records, packed_start _ _ _ (search rules) (search rules) (search rules) long)
 
-pub loop-i-preserved-then-stays : goal.loop-i-preserved-then-stays
-loop-i-preserved-then-stays c =
+pub loop-i-preserved-then-not-stays : goal.loop-i-preserved-then-not-stays
+loop-i-preserved-then-not-stays c =
     let l = c.loop-i in (
-      simp length-set l.invariant.0,
-      simp length-set l.invariant.1,
-      simp length-set l.invariant.2,
-      (removal_stays _ _ _ _ _ c.loop-i-test.true l.invariant.0 l.invariant.1 l.invariant.3
-          (sym c.stays.ensures ∙ c.if-stays.true)),
+      l.invariant.0,
+      l.invariant.1,
+      l.invariant.2,
+      removal_drops _ _ _ blank _ c.loop-i-test.true l.invariant.0 l.invariant.1 l.invariant.3
+          (sym c.stays.ensures ∙ c.if-not-stays.true),
     )
 
 pub loop-i-preserved : goal.loop-i-preserved
 loop-i-preserved c =
     let l = c.loop-i in (
-      l.invariant.0,
-      l.invariant.1,
-      l.invariant.2,
-      removal_drops _ _ _ _ _ c.loop-i-test.true l.invariant.0 l.invariant.1 l.invariant.3
-          (sym c.stays.ensures ∙ c.if-stays.false),
+      simp length-set l.invariant.0,
+      simp length-set l.invariant.1,
+      simp length-set l.invariant.2,
+      removal_stays _ _ _ blank _ c.loop-i-test.true l.invariant.0 l.invariant.1 l.invariant.3
+          (sym c.stays.ensures ∙ c.if-not-stays.false),
     )
 
 pub returns : goal.returns
 returns c =
     let a = c.args in
-    let l = c.loop-i.invariant in
-    let records = c.loop-i.records in
-    let left : JoinedIn c.loop-i.words c.loop-i.transmissions c.loop-i.j records
-    (filter (stays_by a.next a.h)
-    (joined (outstanding_in a.words.now a.transmissions.now a.n) a.records.now))
-    = rw (← (beside_front a.words.now a.transmissions.now a.records.now a.n))
-    (in_front_lem _ _ _ _ _ l.0 l.1 (packed_done (select_end _ _ _ _ c.loop-i-test.false) l.3)) in
-    let first = first_is c.loop-i.words c.loop-i.transmissions records c.loop-i.j a.next blank
-    l.0 l.1 l.2 in (
-      left,
-      c.first_number.ensures ∙ first ∙ ap (λ (x : List Sent). first_number_or x a.next) left.list,
+    let l = c.loop-i.invariant in (
+      rw (← (beside_front a.words.now a.transmissions.now a.records.now a.n))
+          (in_front_lem _ _ _ _ _ l.0 l.1 (packed_done (select_end _ _ _ _ c.loop-i-test.false) l.3)),
       l.2,
     )

@@ -1,5 +1,4 @@
 -- `remaining` writes the segments that stay to the front, with their transmissions and records.
-use Prim.Native.Nat.{◌-◌}
 use mathlib.Core.Path.{◌≡◌}
 use lib.ListN.{length, take, drop}
 use Rattle.lists.specs.Acknowledging.{filter}
@@ -17,6 +16,3 @@ invariant-loop-i l =
     (beside l.words l.transmissions l.records)
     (filter (stays_by l.next l.h) (drop l.i (take l.n (beside l.initial.words l.initial.transmissions l.initial.records))))
     (filter (stays_by l.next l.h) (take l.n (beside l.initial.words l.initial.transmissions l.initial.records))) l.i l.j
-
-abbrev pub decreases-loop-i : goal.decreases-loop-i
-decreases-loop-i l = l.n - l.i

@@ -7,7 +7,7 @@ use Rattle.records.specs.Tables.{blank}
 use Rattle.acknowledge.proofs.skip_before.Goals as goal
 
 pub loop-i-init : goal.loop-i-init
-loop-i-init c = (c.requires.0, packed_start _ _ _ (search rules) (search rules) c.requires.1 c.requires.0)
+loop-i-init c = (c.told-records, packed_start _ _ _ (search rules) (search rules) c.requires c.told-records)
 
 pub loop-i-preserved : goal.loop-i-preserved
 loop-i-preserved c = (

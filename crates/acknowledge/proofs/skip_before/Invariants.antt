@@ -1,5 +1,4 @@
 -- `skip_before` replaces each record in its place.
-use Prim.Native.Nat.{◌-◌}
 use mathlib.Core.Path.{◌≡◌}
 use mathlib.Core.List.{map}
 use lib.ListN.{length, take, drop}
@@ -13,6 +12,3 @@ invariant-loop-i l =
     × Packed 32 l.n l.initial.records l.records
     (map (skip_record l.number) (drop l.i (take l.n l.initial.records)))
     (map (skip_record l.number) (take l.n l.initial.records)) l.i l.i
-
-abbrev pub decreases-loop-i : goal.decreases-loop-i
-decreases-loop-i l = l.n - l.i

@@ -53,7 +53,8 @@ returns c = stops _ _ _ _ _ _ c.loop-h.invariant.2 (sym c.find_header.ensures �
 pub returns-in_err-judge : goal.returns-in_err-judge
 returns-in_err-judge c =
     let p = err_from_is_err_and c.from_residual.result c.from_residual.ensures.1 in
-    rw (p.1, p.2) (refuses _ _ _ _ _ _ c.loop-h.invariant.2 _ (found_whole _ _ _ (sym c.find_header.ensures ∙ c.in-Some.is)) _ (sym c.in_err-judge.ensures))
+    let whole = found_whole _ _ _ (sym c.find_header.ensures ∙ c.in-Some.is) in
+    rw (p.1, p.2) (refuses _ _ _ _ _ _ c.loop-h.invariant.2 _ whole _ (sym c.in_err-judge.ensures))
 
 pub loop-h-preserved : goal.loop-h-preserved
 loop-h-preserved c = let w = went_on c in (w.inside, omega arith, w.rest)

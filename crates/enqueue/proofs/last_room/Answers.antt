@@ -4,22 +4,21 @@ use native.Mathlib.Omega.{arith}
 use Rattle.lists.specs.declared.Held.{Held}
 use Rattle.enqueue.proofs.Lasts.{room_off, room_none, room_some}
 use Rattle.enqueue.proofs.last_room.Goals as goal
+use Rattle.enqueue.proofs.last_room.Goals.{then-not-stream-via-then-not-stream, then-not-stream-via-else-not-stream+then-n-eq0}
 
-pub returns-then-n-gt0 : goal.returns-then-n-gt0
-returns-then-n-gt0 c =
-    let stream = c.if-stream.true in
-    let some = c.if-n-gt0.true in
+pub returns-then-not-stream : goal.returns-then-not-stream
+returns-then-not-stream c =
+    elim c.then-not-stream.branch [
+      | then-not-stream-via-then-not-stream w ↦ sym (room_off _ w.if-not-stream.true _ _)
+      | then-not-stream-via-else-not-stream+then-n-eq0 w ↦ sym (room_none _ _ _ _ w.if-n-eq0.true)
+    ]
+
+pub returns : goal.returns
+returns c =
+    let a = c.args in
     omega (
       arith,
-      room_some c.args.stream stream c.args.mss c.args.queued.now c.args.n some (omega (arith, c.requires.0, c.requires.1)),
-      c.least.ensures,
+      room_some a.stream c.if-not-stream.false a.mss a.queued.now a.n (omega arith) (omega arith),
+      c.saturating_sub.ensures,
       ap (λ (h : Held). h.len) c.from-last.ensures,
     )
-
-pub returns-else-n-gt0 : goal.returns-else-n-gt0
-returns-else-n-gt0 c =
-    let a = c.args in
-    sym (room_none a.stream a.mss a.queued.now a.n (omega (arith, c.if-n-gt0.false)))
-
-pub returns-else-stream : goal.returns-else-stream
-returns-else-stream c = sym (room_off _ c.if-stream.false _ _)

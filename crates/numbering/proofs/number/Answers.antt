@@ -12,14 +12,8 @@ returns-then-k-eq0 c =
 pub number_first-requires : goal.number_first-requires
 number_first-requires c =
     let p = c.requires in
-    let a = c.args in (
-      p.queued_whole,
-      p.outstanding_whole,
-      p.transmissions_whole,
-      p.records_whole,
-      few a.flight a.window a.queued.now a.outstanding.now a.transmissions.now a.records.now _ p
-          c.numbered_count-k.ensures,
-    )
+    let a = c.args in
+    few a.flight a.window a.queued.now a.outstanding.now a.transmissions.now a.records.now _ p c.numbered_count-k.ensures
 
 pub returns : goal.returns
 returns c =

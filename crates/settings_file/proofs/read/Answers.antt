@@ -2,7 +2,10 @@
 use Rattle.std.proofs.Common.{sym, ◌∙◌, arith}
 use Rattle.settings_file.specs.FileLaws.{short_file, no_magic, other_version, of_first, of_second}
 use Rattle.settings_file.proofs.read.Goals as goal
-use Rattle.settings_file.proofs.read.Goals.{then-file-lt-FRONT-via-then-file-lt-FRONT, then-file-lt-FRONT-via-else-file-lt-FRONT+then-not-has_magic}
+use Rattle.settings_file.proofs.read.Goals.{
+  then-file-lt-FRONT-via-then-file-lt-FRONT,
+  then-file-lt-FRONT-via-else-file-lt-FRONT+then-not-has_magic,
+}
 
 pub returns-then-file-lt-FRONT : goal.returns-then-file-lt-FRONT
 returns-then-file-lt-FRONT c =

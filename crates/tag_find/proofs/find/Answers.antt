@@ -15,8 +15,8 @@ returns-in_err-here c =
 pub returns-in_err-behind : goal.returns-in_err-behind
 returns-in_err-behind c =
     raised _ _ c.from_residual-in_err-behind.ensures.1
-    ∙ finding.defaults_refused _ _ _ c.if-own-ne-SIZE.false c.if-defaults-ne-SIZE.false (sees _ _ _ (sym c.survey.ensures ∙ c.in_ok-here.was))
-    (sym c.survey-2.ensures ∙ c.in_err-behind.was)
+    ∙ finding.defaults_refused _ _ _ c.if-own-ne-SIZE.false c.if-defaults-ne-SIZE.false
+    (sees _ _ _ (sym c.survey.ensures ∙ c.in_ok-here.was)) (sym c.survey-2.ensures ∙ c.in_err-behind.was)
 
 pub returns-then-not-is_name : goal.returns-then-not-is_name
 returns-then-not-is_name c =

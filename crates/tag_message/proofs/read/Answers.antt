@@ -2,7 +2,11 @@
 use Rattle.std.proofs.Common.{arith}
 use Rattle.tag_message.specs.MessageLaws.{no_message, message}
 use Rattle.tag_message.proofs.read.Goals as goal
-use Rattle.tag_message.proofs.read.Goals.{else-message-middle-via-then-message-middle+then-value-le-VALUE_MOST+else-is_name, else-message-middle-via-then-message-middle+else-value-le-VALUE_MOST, else-message-middle-via-else-message-middle}
+use Rattle.tag_message.proofs.read.Goals.{
+  else-message-middle-via-then-message-middle+then-value-le-VALUE_MOST+else-is_name,
+  else-message-middle-via-then-message-middle+else-value-le-VALUE_MOST,
+  else-message-middle-via-else-message-middle,
+}
 
 pub returns-then-is_name : goal.returns-then-is_name
 returns-then-is_name c =

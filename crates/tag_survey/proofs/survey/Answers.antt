@@ -2,7 +2,10 @@
 use Rattle.std.proofs.Common.{sym, ◌∙◌}
 use Rattle.tag_survey.specs.SurveyLaws as law
 use Rattle.tag_survey.proofs.survey.Goals as goal
-use Rattle.tag_survey.proofs.survey.Goals.{then-not-is_entry-via-then-not-is_entry, then-not-is_entry-via-else-not-is_entry+then-not-is_fresh}
+use Rattle.tag_survey.proofs.survey.Goals.{
+  then-not-is_entry-via-then-not-is_entry,
+  then-not-is_entry-via-else-not-is_entry+then-not-is_fresh,
+}
 
 pub returns-then-table-ne-SIZE : goal.returns-then-table-ne-SIZE
 returns-then-table-ne-SIZE c = law.other_size _ _ c.if-table-ne-SIZE.true
@@ -12,8 +15,10 @@ returns-then-not-is_entry c =
     let l = c.loop-i in
     law.out_of_rules _ _ c.if-table-ne-SIZE.false _ c.entries_in-entries.ensures
     (elim c.then-not-is_entry.branch [
-      | then-not-is_entry-via-then-not-is_entry w ↦ law.broken _ _ l.i l.invariant c.loop-i-test.true (sym c.is_entry.ensures ∙ w.if-not-is_entry.true)
-      | then-not-is_entry-via-else-not-is_entry+then-not-is_fresh w ↦ law.twice _ _ l.i l.invariant c.loop-i-test.true (sym w.is_fresh.ensures.fresh ∙ w.if-not-is_fresh.true)
+      | then-not-is_entry-via-then-not-is_entry w ↦
+          law.broken _ _ l.i l.invariant c.loop-i-test.true (sym c.is_entry.ensures ∙ w.if-not-is_entry.true)
+      | then-not-is_entry-via-else-not-is_entry+then-not-is_fresh w ↦
+          law.twice _ _ l.i l.invariant c.loop-i-test.true (sym w.is_fresh.ensures.fresh ∙ w.if-not-is_fresh.true)
     ])
 
 pub loop-i-preserved : goal.loop-i-preserved

@@ -13,7 +13,8 @@ returns-in_err-seen c =
 
 pub returns-then-not-is_name : goal.returns-then-not-is_name
 returns-then-not-is_name c =
-    change.refuses_form c.args.name.now _ _ _ _ (sees _ _ _ (sym c.survey.ensures ∙ c.in_ok-seen.was)) (sym c.is_name.ensures ∙ c.if-not-is_name.true)
+    change.refuses_form c.args.name.now _ _ _ _ (sees _ _ _ (sym c.survey.ensures ∙ c.in_ok-seen.was))
+    (sym c.is_name.ensures ∙ c.if-not-is_name.true)
 
 pub returns-in_err-at : goal.returns-in_err-at
 returns-in_err-at c =

@@ -15,7 +15,8 @@ returns-in_err-seen c =
 
 pub returns-then-not-is_tag : goal.returns-then-not-is_tag
 returns-then-not-is_tag c =
-    change.refuses_form c.args.name.now _ _ _ _ (sees _ _ _ (sym c.survey.ensures ∙ c.in_ok-seen.was)) (sym c.is_tag.ensures ∙ c.if-not-is_tag.true)
+    change.refuses_form c.args.name.now _ _ _ _ (sees _ _ _ (sym c.survey.ensures ∙ c.in_ok-seen.was))
+    (sym c.is_tag.ensures ∙ c.if-not-is_tag.true)
 
 pub returns-in_err-at : goal.returns-in_err-at
 returns-in_err-at c =

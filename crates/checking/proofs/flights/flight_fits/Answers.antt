@@ -1,7 +1,7 @@
 -- `flight_fits`: the records before the index are passed.
-use Rattle.std.proofs.Common.{◌≡◌, None, Some, sym, ap, ◌∙◌, take}
+use Rattle.std.proofs.Common.{sym, ap, ◌∙◌, take}
 use Rattle.records.specs.Tables.{blank}
-use Rattle.checking.specs.Tests.{least_after_all, flown_by, flight_fits}
+use Rattle.checking.specs.Tests.{flown_by, flight_fits}
 use Rattle.checking.specs.FlownLaws.{flown_fits}
 use Rattle.checking.proofs.Turns.{least_next, least_none, least_end, looked_all}
 use Rattle.checking.proofs.flights.flight_fits.Goals as goal
