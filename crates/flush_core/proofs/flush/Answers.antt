@@ -1,9 +1,5 @@
 -- `flush`: the checks of 7 and 13, then the flush or the update.
-use Prim.Native.Nat.{ℕ}
-use mathlib.Core.List.{List}
-use mathlib.Core.Path.{◌≡◌}
-use Rattle.control.specs.Views.{arrays, link_of, block_valid}
-use Rattle.checking.specs.Verdicts.{verdict_of}
+use Rattle.control.specs.Views.{arrays, link_of}
 use Rattle.checking.specs.VerdictLaws.{admitted}
 use Rattle.flush_core.proofs.Checks.{flushable, ran, unflushed}
 use Rattle.flush_core.proofs.flush.Goals as goal
