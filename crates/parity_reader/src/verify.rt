@@ -11,6 +11,7 @@ use parity_found::found::{self, Group};
 use parity_scan::scan;
 
 // Parity shard w of the datagrams found, in a row as long as their longest shard.
+// Beside the writer's: one function for both would need a closure that lends the shard of each place, and is no plainer.
 fn parity_row<'a>(w: usize, g: &Group<'a>, row: &mut [u8])
     requires { Ready g.now × (lengths_ok g.now.shape.mtu (lengths_of (found_in g.now)) ≡ true)
         × (length row.old ≡ largest (lengths_of (found_in g.now)) + 2) }
