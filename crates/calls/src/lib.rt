@@ -2,9 +2,9 @@
 // outstanding segments are gathered from the lent table, or looked at there, and put back; the block's lists are changed in place.
 #![tactic(auto)]
 
-ghost use Rattle.std.specs.Prelude.{length};
+ghost use Rattle.std.specs.Prelude.{◌≡◌, length};
 ghost use Rattle.promises.specs.Outcomes.{shows};
-ghost use Rattle.promises.specs.Parts.{parts_of, flush_parts_of};
+ghost use Rattle.promises.specs.Parts.{lent_lengths, parts_of, flush_parts_of};
 ghost use Rattle.promises.specs.Promises.{OpenPromise, SendPromise, InputPromise, FlushPromise, UpdatePromise, CheckPromise};
 ghost use Rattle.promises.specs.Promises.{ReadPromise, SizePromise, ShowsPart, place_of};
 ghost use Rattle.read_core.specs.Places.{PlaceIs};
@@ -14,7 +14,20 @@ use answers::Answer;
 use control::Link;
 use protocol::Settings;
 use read_core::Place;
+use sizes::Lengths;
 use timing::Record;
+
+// How long the lent parts are.
+fn lent_lengths(send_pool: &[u8], receive_pool: &[u8], table: &[Record], acks: &[u32]) -> Lengths
+    ensures { result ≡ lent_lengths (length table.now) send_pool.now receive_pool.now acks.now }
+{
+    Lengths {
+        send: send_pool.len(),
+        receive: receive_pool.len(),
+        table: table.len(),
+        acks: acks.len(),
+    }
+}
 
 // Opening with these settings; refused, the old block stays.
 pub fn open(
@@ -30,22 +43,7 @@ pub fn open(
         result link.new
         (parts_of send_pool.now receive_pool.now table.now acks.now) }
 {
-    let opened = open_core::open(
-        new,
-        link.settings,
-        link.flight,
-        link.arrival,
-        link.clock,
-        table.len(),
-        send_pool,
-        receive_pool,
-        acks,
-    );
-    link.settings = opened.settings;
-    link.flight = opened.flight;
-    link.arrival = opened.arrival;
-    link.clock = opened.clock;
-    opened.answer
+    open_core::open(link, new, lent_lengths(send_pool, receive_pool, table, acks))
 }
 
 // Sending a message.
@@ -64,30 +62,10 @@ pub fn send(
 {
     let mut send_marks = [0; 128];
     let mut receive_marks = [0; 256];
-    let sound = block_check::sound(link, &mut send_marks, &mut receive_marks);
-    let flown = gathering::fit(table, &link.outstanding, link.settings, link.flight);
-    let submitted = send_core::send(
-        link.settings,
-        link.flight,
-        link.arrival,
-        link.clock,
-        sound,
-        flown,
-        table.len(),
-        &mut link.queued,
-        &link.outstanding,
-        &link.transmissions,
-        &link.ready,
-        &link.waiting,
-        &link.waiting_numbers,
-        &send_marks,
-        send_pool,
-        receive_pool,
-        acks,
-        message,
-    );
-    link.flight = submitted.flight;
-    submitted.answer
+    let lent = lent_lengths(send_pool, receive_pool, table, acks);
+    let long = sizes::enough(link.settings, lent);
+    block_check::check(link, long, table, &mut send_marks, &mut receive_marks)?;
+    send_core::send(link, &send_marks, send_pool, message)
 }
 
 // Taking in a datagram.
@@ -269,28 +247,10 @@ pub fn check(
     let mut send_marks = [0; 128];
     let mut receive_marks = [0; 256];
     let sound = block_check::sound(link, &mut send_marks, &mut receive_marks);
-    let n = link.flight.outstanding;
     let mut records = records::none();
-    gathering::gather(table, &link.outstanding, n, &mut records);
-    check_core::check(
-        link.settings,
-        link.flight,
-        link.arrival,
-        link.clock,
-        sound,
-        &records,
-        table.len(),
-        &link.queued,
-        &link.outstanding,
-        &link.transmissions,
-        &link.ready,
-        &link.waiting,
-        &link.waiting_numbers,
-        send_pool,
-        receive_pool,
-        acks,
-        t,
-    )
+    gathering::gather(table, &link.outstanding, link.flight.outstanding, &mut records);
+    let lent = lent_lengths(send_pool, receive_pool, table, acks);
+    check_core::check(link, sound, &records, lent, t)
 }
 
 // Reading a message: how many bytes it has.
@@ -310,29 +270,10 @@ pub fn read(
 {
     let mut send_marks = [0; 128];
     let mut receive_marks = [0; 256];
-    let sound = block_check::sound(link, &mut send_marks, &mut receive_marks);
-    let flown = gathering::fit(table, &link.outstanding, link.settings, link.flight);
-    let delivered = read_core::read(
-        link.settings,
-        link.flight,
-        link.arrival,
-        link.clock,
-        sound,
-        flown,
-        table.len(),
-        &link.queued,
-        &link.outstanding,
-        &link.transmissions,
-        &mut link.ready,
-        &mut link.waiting,
-        &mut link.waiting_numbers,
-        send_pool,
-        receive_pool,
-        acks,
-        buffer,
-    );
-    link.arrival = delivered.arrival;
-    delivered.answer
+    let lent = lent_lengths(send_pool, receive_pool, table, acks);
+    let long = sizes::enough(link.settings, lent);
+    block_check::check(link, long, table, &mut send_marks, &mut receive_marks)?;
+    read_core::read(link, receive_pool, buffer)
 }
 
 // Telling the size of the next message.
@@ -348,26 +289,10 @@ pub fn size(
 {
     let mut send_marks = [0; 128];
     let mut receive_marks = [0; 256];
-    let sound = block_check::sound(link, &mut send_marks, &mut receive_marks);
-    let flown = gathering::fit(table, &link.outstanding, link.settings, link.flight);
-    read_core::size(
-        link.settings,
-        link.flight,
-        link.arrival,
-        link.clock,
-        sound,
-        flown,
-        table.len(),
-        &link.queued,
-        &link.outstanding,
-        &link.transmissions,
-        &link.ready,
-        &link.waiting,
-        &link.waiting_numbers,
-        send_pool,
-        receive_pool,
-        acks,
-    )
+    let lent = lent_lengths(send_pool, receive_pool, table, acks);
+    let long = sizes::enough(link.settings, lent);
+    block_check::check(link, long, table, &mut send_marks, &mut receive_marks)?;
+    read_core::size(link)
 }
 
 // Where in the receive pool the front segment's payload lies; 0 and 0 where showing is refused.
@@ -384,26 +309,12 @@ pub fn locate(
 {
     let mut send_marks = [0; 128];
     let mut receive_marks = [0; 256];
-    let sound = block_check::sound(link, &mut send_marks, &mut receive_marks);
-    let flown = gathering::fit(table, &link.outstanding, link.settings, link.flight);
-    read_core::locate(
-        link.settings,
-        link.flight,
-        link.arrival,
-        link.clock,
-        sound,
-        flown,
-        table.len(),
-        &link.queued,
-        &link.outstanding,
-        &link.transmissions,
-        &link.ready,
-        &link.waiting,
-        &link.waiting_numbers,
-        send_pool,
-        receive_pool,
-        acks,
-    )
+    let lent = lent_lengths(send_pool, receive_pool, table, acks);
+    let long = sizes::enough(link.settings, lent);
+    match block_check::check(link, long, table, &mut send_marks, &mut receive_marks) {
+        Ok(()) => read_core::locate(link),
+        Err(_) => Place { start: 0, count: 0 },
+    }
 }
 
 // The front segment's payload, the very part of the receive pool that holds it; an empty part where showing is refused.

@@ -32,42 +32,28 @@ fn refusal_code(refusal: Refusal) -> i32
 pub fn answer_code(answer: Answer<()>) -> i32
     ensures { result ≡ answer_code answer }
 {
-    match answer {
-        Ok(()) => 0,
-        Err(refusal) => refusal_code(refusal),
-    }
+    answer.map_or_else(refusal_code, |()| 0)
 }
 
 // A count.
 pub fn size_code(n: usize) -> i32
     ensures { result ≡ size_code n }
 {
-    if n <= COUNT_MOST {
-        n as i32
-    } else {
-        2147483647
-    }
+    n.min(COUNT_MOST) as i32
 }
 
 // The count, or the refusal.
 pub fn count_code(count: Answer<usize>) -> i32
     ensures { result ≡ count_code count }
 {
-    match count {
-        Ok(n) => size_code(n),
-        Err(refusal) => refusal_code(refusal),
-    }
+    count.map_or_else(refusal_code, size_code)
 }
 
 // The count of an update's datagrams, the number of one that did not flush, or the refusal.
 pub fn update_code(update: Answer<Option<usize>>) -> i32
     ensures { result ≡ update_code update }
 {
-    match update {
-        Ok(None) => NOT_YET,
-        Ok(Some(n)) => size_code(n),
-        Err(refusal) => refusal_code(refusal),
-    }
+    update.map_or_else(refusal_code, |written| written.map_or(NOT_YET, size_code))
 }
 
 // A check's time is stored, and 0 returned, or the refusal.
@@ -87,21 +73,7 @@ pub fn tell_time(time: Answer<u32>, when: &mut u32) -> i32
 pub fn narrow32(x: usize) -> u32
     ensures { result ≡ min x 4294967295 }
 {
-    if x < 4294967295 { x as u32 } else { 4294967295 }
-}
-
-// In 16 bits.
-fn narrow16(x: u32) -> u16
-    ensures { result ≡ min x 65535 }
-{
-    if x < 65535 { x as u16 } else { 65535 }
-}
-
-// In 8 bits.
-fn narrow8(x: u32) -> u8
-    ensures { result ≡ min x 255 }
-{
-    if x < 255 { x as u8 } else { 255 }
+    x.min(u32::MAX as usize) as u32
 }
 
 // The settings of these numbers. One that is beyond its width becomes the largest of that width, which is out of range too.
@@ -118,11 +90,11 @@ pub fn settings(
 {
     Protocol::settings(
         conv,
-        narrow16(mtu),
-        narrow8(mode),
-        narrow16(interval),
-        narrow8(threshold),
-        narrow8(stream),
-        narrow8(congestion),
+        u16::try_from(mtu).unwrap_or(u16::MAX),
+        u8::try_from(mode).unwrap_or(u8::MAX),
+        u16::try_from(interval).unwrap_or(u16::MAX),
+        u8::try_from(threshold).unwrap_or(u8::MAX),
+        u8::try_from(stream).unwrap_or(u8::MAX),
+        u8::try_from(congestion).unwrap_or(u8::MAX),
     )
 }

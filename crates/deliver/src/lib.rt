@@ -74,7 +74,8 @@ pub fn front_size(ready: &[u32]) -> Answer<usize>
     Ok(total(&ready[..k]))
 }
 
-// The same of the first n words, and 7 where it is longer than the room.
+// The same of the first n words, and 7 where it is longer than the room. An array and a count: the front of an array behind two
+// references gets no generated proof.
 pub fn fitting(ready: &[u32; 128], n: usize, room: usize) -> Answer<usize>
     requires { n ≤ 128 }
     ensures { count_outcome result ≡ fitting_of (held_in ready.now n) room }

@@ -45,7 +45,7 @@ pub enum Refusal {
 pub type Answer = Result<usize, Refusal>;
 
 impl Refusal {
-    // The refusal's number.
+    // The refusal's number, which C is told.
     pub fn number(self) -> u8
         ensures { result ≡ number_of self }
     {

@@ -77,7 +77,7 @@ fn solve_two(k: usize, s: &[u8], held: &Held, i: usize, j: usize, a: &mut [u8], 
     rows::add(b, 0, a);
 }
 
-// What is lost of a group: the shards at places i and j.
+// What is lost of a group: the shards at places i and j. The rows differ in each call, so k, s and held stay arguments of their own.
 pub fn restore(
     k: usize,
     s: &[u8],

@@ -1,35 +1,19 @@
--- The block is checked where it stands, and the core's promise at the table's own records is what reading promises.
-use Rattle.std.proofs.Common.{refl, rules, length, take}
-use Rattle.protocol.specs.Protocol.{send_slots}
-use Rattle.records.specs.Tables.{slots_in, gathered, padded}
-use Rattle.control.specs.Views.{arrays, link_of}
-use Rattle.checking.specs.Verdicts.{Flown}
-use Rattle.promises.specs.Parts.{parts_of}
-use Rattle.from_cores.proofs.Gathered.{gathers, padded_whole}
-use Rattle.from_cores.proofs.Reading.{read_promised}
+use Rattle.std.proofs.Common.{rules, ◌≡◌, length, ℕ, ◌+◌, ◌-◌, ◌*◌, ◌<◌, ◌≤◌, ◌/◌, ◌%◌, Bool, true, false, nat_eq, nat_lt, List, [], ◌∷◌, ◌++◌, slice_index_or, slice_set, bit_and, bit_or, Fits, w8, w32, w64, Bor, MutBor}
+use Rattle.promises.specs.Outcomes.{shows}
+use Rattle.promises.specs.Parts.{lent_lengths, parts_of, flush_parts_of}
+use Rattle.promises.specs.Promises.{OpenPromise, SendPromise, InputPromise, FlushPromise, UpdatePromise, CheckPromise, ReadPromise, SizePromise, ShowsPart, place_of}
+use Rattle.read_core.specs.Places.{PlaceIs}
+use Rattle.calls.specs.Written.{WrittenOut}
 use Rattle.calls.proofs.read.Goals as goal
 
-pub read-delivered-requires : goal.read-delivered-requires
-read-delivered-requires c =
-    let h = c.args.link.now in
-    let table = take send_slots c.args.table.now in
-    let n = h.flight.outstanding in
-    let records = padded (gathered table (slots_in h.outstanding n)) in
-    let flown : Flown h records c.fit-flown.result = record { whole = padded_whole table h.outstanding n; fits = c.fit-flown.ensures } in
-    (search rules, (records, flown), (c.sound-sound.new.send_marks, (c.sound-sound.new.receive_marks, c.sound-sound.ensures)))
+-- src/lib.rt:275:5
+pub returns-in_err-check : goal.returns-in_err-check
+returns-in_err-check c = ?
 
+-- src/lib.rt:276:5
+pub read-requires : goal.read-requires
+read-requires c = ?
+
+-- src/lib.rt:257:1
 pub returns : goal.returns
-returns c =
-    let h = c.args.link.now in
-    let table = take send_slots c.args.table.now in
-    let n = h.flight.outstanding in
-    let records = padded (gathered table (slots_in h.outstanding n)) in
-    let flown : Flown h records c.fit-flown.result = record { whole = padded_whole table h.outstanding n; fits = c.fit-flown.ensures } in
-    let p = parts_of c.args.send_pool.now c.args.receive_pool.now c.args.table.now c.args.acks.now in
-    let m = length p.table in
-    let d = c.read-delivered.result in
-    let after = c.read-delivered.new in
-    let l = link_of h.settings h.flight d.arrival h.clock
-    (arrays h.queued h.outstanding h.transmissions after.ready after.waiting after.waiting_numbers) in
-    read_promised h p records m (gathers h p n records m refl refl refl) c.args.buffer.now d.answer l
-    after.buffer (c.read-delivered.ensures records flown)
+returns c = ?

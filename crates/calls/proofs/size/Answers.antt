@@ -1,29 +1,19 @@
--- The block is checked where it stands, and the core's answer at the table's own records is the one that is promised.
-use Rattle.std.proofs.Common.{refl, rules, length, take}
-use Rattle.protocol.specs.Protocol.{send_slots}
-use Rattle.records.specs.Tables.{slots_in, gathered, padded}
-use Rattle.checking.specs.Verdicts.{Flown}
-use Rattle.promises.specs.Parts.{parts_of}
-use Rattle.from_cores.proofs.Gathered.{gathers, padded_whole}
-use Rattle.from_cores.proofs.Asking.{size_promised}
+use Rattle.std.proofs.Common.{rules, ◌≡◌, length, ℕ, ◌+◌, ◌-◌, ◌*◌, ◌<◌, ◌≤◌, ◌/◌, ◌%◌, Bool, true, false, nat_eq, nat_lt, List, [], ◌∷◌, ◌++◌, slice_index_or, slice_set, bit_and, bit_or, Fits, w8, w32, w64, Bor, MutBor}
+use Rattle.promises.specs.Outcomes.{shows}
+use Rattle.promises.specs.Parts.{lent_lengths, parts_of, flush_parts_of}
+use Rattle.promises.specs.Promises.{OpenPromise, SendPromise, InputPromise, FlushPromise, UpdatePromise, CheckPromise, ReadPromise, SizePromise, ShowsPart, place_of}
+use Rattle.read_core.specs.Places.{PlaceIs}
+use Rattle.calls.specs.Written.{WrittenOut}
 use Rattle.calls.proofs.size.Goals as goal
 
-pub size-requires : goal.size-requires
-size-requires c =
-    let h = c.args.link.now in
-    let table = take send_slots c.args.table.now in
-    let n = h.flight.outstanding in
-    let records = padded (gathered table (slots_in h.outstanding n)) in
-    let flown : Flown h records c.fit-flown.result = record { whole = padded_whole table h.outstanding n; fits = c.fit-flown.ensures } in
-    (search rules, (records, flown), (c.sound-sound.new.send_marks, (c.sound-sound.new.receive_marks, c.sound-sound.ensures)))
+-- src/lib.rt:294:5
+pub returns-in_err-check : goal.returns-in_err-check
+returns-in_err-check c = ?
 
+-- src/lib.rt:295:5
+pub size-requires : goal.size-requires
+size-requires c = ?
+
+-- src/lib.rt:280:1
 pub returns : goal.returns
-returns c =
-    let h = c.args.link.now in
-    let table = take send_slots c.args.table.now in
-    let n = h.flight.outstanding in
-    let records = padded (gathered table (slots_in h.outstanding n)) in
-    let flown : Flown h records c.fit-flown.result = record { whole = padded_whole table h.outstanding n; fits = c.fit-flown.ensures } in
-    let p = parts_of c.args.send_pool.now c.args.receive_pool.now c.args.table.now c.args.acks.now in
-    let m = length p.table in
-    size_promised h p records m (gathers h p n records m refl refl refl) c.size.result (c.size.ensures records flown)
+returns c = ?
