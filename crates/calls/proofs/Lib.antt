@@ -1,1 +1,3 @@
 pub mod Paced
+pub mod Written
+pub mod Named

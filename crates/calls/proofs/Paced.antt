@@ -14,20 +14,17 @@ use Rattle.promises.specs.Cores.{PutBack}
 use Rattle.from_cores.proofs.Gathered.{Gathers}
 use Rattle.from_cores.proofs.Flushing.{flush_left, flush_promised}
 use Rattle.from_cores.proofs.Updating.{update_left, update_promised}
-use Rattle.flush_core.specs.declared.Flushed.{Flushed}
-use Rattle.flush_core.specs.Flushes.{put_back, Core}
+use Rattle.flush_core.specs.Flushes.{Core}
 use Rattle.calls.specs.Written.{Left, WrittenOut}
 use Rattle.answers.specs.Answers.{Update}
 
 -- the records of the table, gathered
-pub left : (paced : Bool) (t : ℕ) (l : Link) (p : Parts) (f : FlushParts) (r : Flushed) (l' : Link) (records' : List Record)
+pub left : (paced : Bool) (t : ℕ) (l : Link) (p : Parts) (f : FlushParts) (a : Update) (b : PutBack) (l' : Link)
     (f' : FlushParts) (records : List Record) (n : ℕ) → Gathers l p records n → Whole (arrays_of l')
-    → Core paced l records n p.send_pool p.receive_pool p.acks t f.output f.lengths r l' records' f'.output f'.lengths
-    → Left paced t l p f r.answer (put_back l'.outstanding r.changed records') l' f'
-left false t l p f r l' records' f' records n g whole h =
-    (h.0, h.1, flush_left t l p f h.0 (put_back l'.outstanding r.changed records') l' f' records n g whole h.2)
-left true t l p f r l' records' f' records n g whole h =
-    update_left t l p f r.answer (put_back l'.outstanding r.changed records') l' f' records n g whole h
+    → Core paced l records n p.send_pool p.receive_pool p.acks t f.output f.lengths a l' b f'.output f'.lengths
+    → Left paced t l p f a b l' f'
+left false t l p f a b l' f' records n g whole h = (h.0, h.1, flush_left t l p f h.0 b l' f' records n g whole h.2)
+left true t l p f a b l' f' records n g whole h = update_left t l p f a b l' f' records n g whole h
 
 -- and those put back
 pub promised : (paced : Bool) (t : ℕ) (l : Link) (p : Parts) (f : FlushParts) (a : Update) (b : PutBack) (l' : Link) (f' : FlushParts)

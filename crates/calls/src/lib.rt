@@ -135,38 +135,15 @@ fn write(
 {
     let mut send_marks = [0; 128];
     let mut receive_marks = [0; 256];
-    let sound = block_check::sound(link, &mut send_marks, &mut receive_marks);
-    let n = link.flight.outstanding;
+    let lent = lent_lengths(send_pool, receive_pool, table, acks);
+    let long = sizes::enough_to_flush(link.settings, lent, output.len(), lengths.len());
+    block_check::check(link, long, table, &mut send_marks, &mut receive_marks)?;
     let mut records = records::none();
-    gathering::gather(table, &link.outstanding, n, &mut records);
-    let flushed = flush_core::flush(
-        link.settings,
-        link.flight,
-        link.arrival,
-        link.clock,
-        sound,
-        &mut records,
-        table.len(),
-        paced,
-        &mut link.queued,
-        &mut link.outstanding,
-        &mut link.transmissions,
-        &link.ready,
-        &link.waiting,
-        &link.waiting_numbers,
-        send_pool,
-        receive_pool,
-        acks,
-        t,
-        output,
-        lengths,
-    );
+    gathering::gather(table, &link.outstanding, link.flight.outstanding, &mut records);
+    let flushed = flush_core::flush(link, &mut records, send_pool, acks, paced, t, output, lengths);
     lending::whole(link);
-    link.flight = flushed.flight;
-    link.arrival = flushed.arrival;
-    link.clock = flushed.clock;
     gathering::scatter(table, &link.outstanding, flushed.changed, &records);
-    flushed.answer
+    Ok(flushed.written)
 }
 
 // A flush at time t: how many datagrams it wrote.
@@ -246,11 +223,12 @@ pub fn check(
 {
     let mut send_marks = [0; 128];
     let mut receive_marks = [0; 256];
-    let sound = block_check::sound(link, &mut send_marks, &mut receive_marks);
+    let lent = lent_lengths(send_pool, receive_pool, table, acks);
+    let long = sizes::enough(link.settings, lent);
+    block_check::check(link, long, table, &mut send_marks, &mut receive_marks)?;
     let mut records = records::none();
     gathering::gather(table, &link.outstanding, link.flight.outstanding, &mut records);
-    let lent = lent_lengths(send_pool, receive_pool, table, acks);
-    check_core::check(link, sound, &records, lent, t)
+    Ok(check_core::check(link, &records, t))
 }
 
 // Reading a message: how many bytes it has.

@@ -1,35 +1,30 @@
--- The records are gathered from the table, and those that the core left are put back: what it left is what the call promises.
-use Rattle.std.proofs.Common.{length, refl, rules}
-use Rattle.control.specs.Views.{arrays, link_of}
+-- A refusal of the checks; else the records are gathered from the table, and those that the core left are put back.
+use Rattle.std.proofs.Common.{rules}
+use Rattle.std.proofs.lemmas.Result.{err_from_is_err_and}
 use Rattle.promises.specs.Parts.{parts_of, flush_parts_of}
-use Rattle.promises.specs.Cores.{PutBack}
-use Rattle.from_cores.proofs.Gathered.{gathers}
-use Rattle.from_cores.proofs.Scattered.{put_back}
-use Rattle.calls.proofs.Paced.{left, promised}
+use Rattle.calls.proofs.Written.{unwritten, flushable, written}
 use Rattle.calls.proofs.write.Goals as goal
 
+pub returns-in_err-check : goal.returns-in_err-check
+returns-in_err-check c =
+    let parts = parts_of c.args.send_pool.now c.args.receive_pool.now c.args.table.now c.args.acks.now in
+    let into = flush_parts_of c.args.output.now c.args.lengths.now in
+    let p = err_from_is_err_and c.from_residual.result c.from_residual.ensures.1 in
+    rw (p.1, p.2) (unwritten c.args.link.now parts into _ (rw c.lent_lengths-lent.ensures at c.enough_to_flush-long.ensures) _ _ _
+    c.check.ensures _ c.in_err-check.was (search rules) c.args.paced c.args.t)
+
 pub flush-flushed-requires : goal.flush-flushed-requires
-flush-flushed-requires c = (
-  search rules,
-  c.gather.ensures.0,
-  (c.sound-sound.new.send_marks, (c.sound-sound.new.receive_marks, c.sound-sound.ensures)),
-)
+flush-flushed-requires c =
+    let parts = parts_of c.args.send_pool.now c.args.receive_pool.now c.args.table.now c.args.acks.now in
+    let into = flush_parts_of c.args.output.now c.args.lengths.now in
+    flushable c.args.link.now parts into _ (rw c.lent_lengths-lent.ensures at c.enough_to_flush-long.ensures) _ _ _ c.check.ensures
+    c.in_ok-check.was _ c.gather.ensures.1
 
 pub returns : goal.returns
 returns c =
-    let h = c.args.link.now in
-    let p = parts_of c.args.send_pool.now c.args.receive_pool.now c.args.table.now c.args.acks.now in
+    let parts = parts_of c.args.send_pool.now c.args.receive_pool.now c.args.table.now c.args.acks.now in
     let into = flush_parts_of c.args.output.now c.args.lengths.now in
-    let m = length p.table in
-    let g = gathers h p h.flight.outstanding c.gather.new.records m refl c.gather.ensures.1 refl in
-    let a = c.flush-flushed.result in
-    let after = c.flush-flushed.new in
-    let lists = arrays after.queued after.outstanding after.transmissions h.ready h.waiting h.waiting_numbers in
-    let l = link_of h.settings a.flight a.arrival a.clock lists in
-    let records = after.records in
-    let filled = flush_parts_of after.output after.lengths in
-    let b : PutBack = record { words = after.outstanding; changed = a.changed; records = records } in
-    let over = left c.args.paced c.args.t h p into a l records filled c.gather.new.records m g c.whole.ensures c.flush-flushed.ensures.0 in
-    let put = put_back c.args.table.now c.scatter.new.table b after.outstanding a.changed records refl
-    refl refl c.scatter.ensures in
-    promised c.args.paced c.args.t h p into a.answer b l filled c.scatter.new.table c.flush-flushed.ensures.1 put over
+    let filled = flush_parts_of c.flush-flushed.new.output c.flush-flushed.new.lengths in
+    written c.args.link.now parts into _ (rw c.lent_lengths-lent.ensures at c.enough_to_flush-long.ensures) _ _ _ c.check.ensures
+    c.in_ok-check.was _ c.gather.ensures.1 c.args.paced c.args.t c.flush-flushed.result _ _ filled _ c.whole.ensures (search rules)
+    c.scatter.ensures c.flush-flushed.ensures
