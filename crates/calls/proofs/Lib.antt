@@ -1,3 +1,4 @@
 pub mod Paced
+pub mod Checks
 pub mod Written
 pub mod Named

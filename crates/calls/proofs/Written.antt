@@ -1,6 +1,6 @@
 -- What a flush, or an update, promises where the checks of 7 and 13 refuse it, and where they pass what its core leaves.
 -- Assumes nothing.
-use Rattle.std.proofs.Common.{◌≡◌, refl, Bool, List, [], ℕ, length, ◌∙◌, ap, Ok, Err}
+use Rattle.std.proofs.Common.{◌≡◌, refl, Bool, List, [], ℕ, length, Ok, Err}
 use Rattle.protocol.specs.Ranges.{mss}
 use Rattle.protocol.specs.declared.Refusal.{Refusal}
 use Rattle.timing.specs.declared.Record.{Record}
@@ -12,7 +12,7 @@ use Rattle.records.specs.Tables.{slots_in, scattered}
 use Rattle.promises.specs.Parts.{Parts, FlushParts, lengths_of, parts_of}
 use Rattle.block_check.specs.Lent.{lent_records}
 use Rattle.block_check.proofs.Whole.{padded_whole}
-use Rattle.from_cores.proofs.Gathered.{Gathers, gathers}
+use Rattle.from_cores.proofs.Gathered.{gathers}
 use Rattle.flush_core.specs.declared.Flushed.{Flushed}
 use Rattle.flush_core.specs.Flushes.{Flushable, Runs}
 use Rattle.flush_core.proofs.Checks as checks

@@ -43,7 +43,11 @@ pub fn open(
         result link.new
         (parts_of send_pool.now receive_pool.now table.now acks.now) }
 {
-    open_core::open(link, new, lent_lengths(send_pool, receive_pool, table, acks))
+    open_core::open(
+        link,
+        new,
+        lent_lengths(send_pool, receive_pool, table, acks),
+    )
 }
 
 // Sending a message.
@@ -139,8 +143,22 @@ fn write(
     let long = sizes::enough_to_flush(link.settings, lent, output.len(), lengths.len());
     block_check::check(link, long, table, &mut send_marks, &mut receive_marks)?;
     let mut records = records::none();
-    gathering::gather(table, &link.outstanding, link.flight.outstanding, &mut records);
-    let flushed = flush_core::flush(link, &mut records, send_pool, acks, paced, t, output, lengths);
+    gathering::gather(
+        table,
+        &link.outstanding,
+        link.flight.outstanding,
+        &mut records,
+    );
+    let flushed = flush_core::flush(
+        link,
+        &mut records,
+        send_pool,
+        acks,
+        paced,
+        t,
+        output,
+        lengths,
+    );
     lending::whole(link);
     gathering::scatter(table, &link.outstanding, flushed.changed, &records);
     Ok(flushed.written)
@@ -227,7 +245,12 @@ pub fn check(
     let long = sizes::enough(link.settings, lent);
     block_check::check(link, long, table, &mut send_marks, &mut receive_marks)?;
     let mut records = records::none();
-    gathering::gather(table, &link.outstanding, link.flight.outstanding, &mut records);
+    gathering::gather(
+        table,
+        &link.outstanding,
+        link.flight.outstanding,
+        &mut records,
+    );
     Ok(check_core::check(link, &records, t))
 }
 

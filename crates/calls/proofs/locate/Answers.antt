@@ -1,19 +1,32 @@
-use Rattle.std.proofs.Common.{rules, ◌≡◌, length, ℕ, ◌+◌, ◌-◌, ◌*◌, ◌<◌, ◌≤◌, ◌/◌, ◌%◌, Bool, true, false, nat_eq, nat_lt, List, [], ◌∷◌, ◌++◌, slice_index_or, slice_set, bit_and, bit_or, Fits, w8, w32, w64, Bor, MutBor}
-use Rattle.promises.specs.Outcomes.{shows}
-use Rattle.promises.specs.Parts.{lent_lengths, parts_of, flush_parts_of}
-use Rattle.promises.specs.Promises.{OpenPromise, SendPromise, InputPromise, FlushPromise, UpdatePromise, CheckPromise, ReadPromise, SizePromise, ShowsPart, place_of}
-use Rattle.read_core.specs.Places.{PlaceIs}
-use Rattle.calls.specs.Written.{WrittenOut}
+-- The checks of 7 and 13, then where the front segment's payload lies.
+use Rattle.promises.specs.Parts.{parts_of}
+use Rattle.block_check.specs.Lent.{lent_records}
+use Rattle.calls.proofs.Checks.{long_of, readable, unshown, placed}
 use Rattle.calls.proofs.locate.Goals as goal
 
--- src/lib.rt:315:19
 pub locate-requires : goal.locate-requires
-locate-requires c = ?
+locate-requires c =
+    let h = c.args.link.now in
+    let p = parts_of c.args.send_pool.now c.args.receive_pool.now c.args.table.now c.args.acks.now in (
+      p.receive_pool,
+      readable h p c.enough-long.result (long_of h p _ _ c.enough-long.ensures c.lent_lengths-lent.ensures)
+          c.check.new.send_marks c.check.new.receive_marks c.check.result c.check.ensures c.in-Ok.is,
+    )
 
--- src/lib.rt:299:1
 pub returns-in-Ok : goal.returns-in-Ok
-returns-in-Ok c = ?
+returns-in-Ok c =
+    let h = c.args.link.now in
+    let p = parts_of c.args.send_pool.now c.args.receive_pool.now c.args.table.now c.args.acks.now in
+    let long = long_of h p _ _ c.enough-long.ensures c.lent_lengths-lent.ensures in
+    let marks = c.check.new in
+    placed h p c.enough-long.result long marks.send_marks marks.receive_marks c.check.result c.check.ensures c.in-Ok.is c.locate.result
+    (c.locate.ensures p.receive_pool
+    (readable h p c.enough-long.result long marks.send_marks marks.receive_marks c.check.result c.check.ensures c.in-Ok.is)
+    (lent_records h p.table) p.acks)
 
--- src/lib.rt:299:1
 pub returns-in-Err : goal.returns-in-Err
-returns-in-Err c = ?
+returns-in-Err c =
+    let h = c.args.link.now in
+    let p = parts_of c.args.send_pool.now c.args.receive_pool.now c.args.table.now c.args.acks.now in
+    unshown h p c.enough-long.result (long_of h p _ _ c.enough-long.ensures c.lent_lengths-lent.ensures)
+    c.check.new.send_marks c.check.new.receive_marks c.check.result c.check.ensures _ c.in-Err.is

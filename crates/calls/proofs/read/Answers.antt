@@ -1,19 +1,29 @@
-use Rattle.std.proofs.Common.{rules, ◌≡◌, length, ℕ, ◌+◌, ◌-◌, ◌*◌, ◌<◌, ◌≤◌, ◌/◌, ◌%◌, Bool, true, false, nat_eq, nat_lt, List, [], ◌∷◌, ◌++◌, slice_index_or, slice_set, bit_and, bit_or, Fits, w8, w32, w64, Bor, MutBor}
-use Rattle.promises.specs.Outcomes.{shows}
-use Rattle.promises.specs.Parts.{lent_lengths, parts_of, flush_parts_of}
-use Rattle.promises.specs.Promises.{OpenPromise, SendPromise, InputPromise, FlushPromise, UpdatePromise, CheckPromise, ReadPromise, SizePromise, ShowsPart, place_of}
-use Rattle.read_core.specs.Places.{PlaceIs}
-use Rattle.calls.specs.Written.{WrittenOut}
+-- The checks of 7 and 13, then what reading leaves of the block.
+use Rattle.std.proofs.lemmas.Result.{err_from_is_err_and}
+use Rattle.promises.specs.Parts.{parts_of}
+use Rattle.block_check.specs.Lent.{lent_records}
+use Rattle.calls.proofs.Checks.{long_of, readable, unread, was_read}
 use Rattle.calls.proofs.read.Goals as goal
 
--- src/lib.rt:275:5
 pub returns-in_err-check : goal.returns-in_err-check
-returns-in_err-check c = ?
+returns-in_err-check c =
+    let h = c.args.link.now in
+    let p = parts_of c.args.send_pool.now c.args.receive_pool.now c.args.table.now c.args.acks.now in
+    let q = err_from_is_err_and c.from_residual.result c.from_residual.ensures.1 in
+    rw (q.1, q.2) (unread h p c.enough-long.result (long_of h p _ _ c.enough-long.ensures c.lent_lengths-lent.ensures)
+    c.check.new.send_marks c.check.new.receive_marks c.check.result c.check.ensures c.args.buffer.now _ c.in_err-check.was)
 
--- src/lib.rt:276:5
 pub read-requires : goal.read-requires
-read-requires c = ?
+read-requires c =
+    let h = c.args.link.now in
+    let p = parts_of c.args.send_pool.now c.args.receive_pool.now c.args.table.now c.args.acks.now in
+    readable h p c.enough-long.result (long_of h p _ _ c.enough-long.ensures c.lent_lengths-lent.ensures)
+    c.check.new.send_marks c.check.new.receive_marks c.check.result c.check.ensures c.in_ok-check.was
 
--- src/lib.rt:257:1
 pub returns : goal.returns
-returns c = ?
+returns c =
+    let h = c.args.link.now in
+    let p = parts_of c.args.send_pool.now c.args.receive_pool.now c.args.table.now c.args.acks.now in
+    was_read h p c.enough-long.result (long_of h p _ _ c.enough-long.ensures c.lent_lengths-lent.ensures)
+    c.check.new.send_marks c.check.new.receive_marks c.check.result c.check.ensures c.in_ok-check.was
+    c.args.buffer.now c.read.result c.read.new.link c.read.new.buffer (c.read.ensures (lent_records h p.table) p.acks)

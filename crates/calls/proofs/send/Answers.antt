@@ -1,19 +1,34 @@
-use Rattle.std.proofs.Common.{rules, ◌≡◌, length, ℕ, ◌+◌, ◌-◌, ◌*◌, ◌<◌, ◌≤◌, ◌/◌, ◌%◌, Bool, true, false, nat_eq, nat_lt, List, [], ◌∷◌, ◌++◌, slice_index_or, slice_set, bit_and, bit_or, Fits, w8, w32, w64, Bor, MutBor}
-use Rattle.promises.specs.Outcomes.{shows}
-use Rattle.promises.specs.Parts.{lent_lengths, parts_of, flush_parts_of}
-use Rattle.promises.specs.Promises.{OpenPromise, SendPromise, InputPromise, FlushPromise, UpdatePromise, CheckPromise, ReadPromise, SizePromise, ShowsPart, place_of}
-use Rattle.read_core.specs.Places.{PlaceIs}
-use Rattle.calls.specs.Written.{WrittenOut}
+-- The checks of 7 and 13, then what sending leaves of the block.
+use Rattle.std.proofs.lemmas.Result.{err_from_is_err_and}
+use Rattle.promises.specs.Parts.{parts_of}
+use Rattle.block_check.specs.Lent.{lent_records}
+use Rattle.calls.proofs.Checks.{long_of, sendable, not_sent, sent}
 use Rattle.calls.proofs.send.Goals as goal
 
--- src/lib.rt:67:5
 pub returns-in_err-check : goal.returns-in_err-check
-returns-in_err-check c = ?
+returns-in_err-check c =
+    let h = c.args.link.now in
+    let p = parts_of c.args.send_pool.now c.args.receive_pool.now c.args.table.now c.args.acks.now in
+    let q = err_from_is_err_and c.from_residual.result c.from_residual.ensures.1 in
+    rw (q.1, q.2) (not_sent h p c.enough-long.result (long_of h p _ _ c.enough-long.ensures c.lent_lengths-lent.ensures)
+    c.check.new.send_marks c.check.new.receive_marks c.check.result c.check.ensures c.args.message.now _ c.in_err-check.was)
 
--- src/lib.rt:68:5
 pub send-requires : goal.send-requires
-send-requires c = ?
+send-requires c =
+    let h = c.args.link.now in
+    let p = parts_of c.args.send_pool.now c.args.receive_pool.now c.args.table.now c.args.acks.now in (
+      lent_records h p.table,
+      sendable h p c.enough-long.result (long_of h p _ _ c.enough-long.ensures c.lent_lengths-lent.ensures)
+          c.check.new.send_marks c.check.new.receive_marks c.check.result c.check.ensures c.in_ok-check.was,
+    )
 
--- src/lib.rt:50:1
 pub returns : goal.returns
-returns c = ?
+returns c =
+    let h = c.args.link.now in
+    let p = parts_of c.args.send_pool.now c.args.receive_pool.now c.args.table.now c.args.acks.now in
+    let long = long_of h p _ _ c.enough-long.ensures c.lent_lengths-lent.ensures in
+    let marks = c.check.new in
+    sent h p c.enough-long.result long marks.send_marks marks.receive_marks c.check.result c.check.ensures c.in_ok-check.was
+    c.args.message.now c.send.result c.send.new.link c.send.new.pool
+    (c.send.ensures (lent_records h p.table) p.acks
+    (sendable h p c.enough-long.result long marks.send_marks marks.receive_marks c.check.result c.check.ensures c.in_ok-check.was))
