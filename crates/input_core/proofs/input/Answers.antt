@@ -1,101 +1,57 @@
--- `input`: the checks of 7 and 13 and those of the datagram, then both halves hear it.
-use mathlib.Core.Path.{refl}
-use Rattle.control.specs.Views.{arrays, link_of}
-use Rattle.checking.specs.Verdicts.{Admitted}
-use Rattle.checking.specs.VerdictLaws.{admitted}
-use Rattle.input_core.proofs.Checks.{admits, refuses, passes, hearable}
-use Rattle.input_core.proofs.Takes.{takes_nothing}
+-- A datagram that passes its check is heard by both halves.
+use Rattle.std.proofs.Common.{rules}
+use Rattle.std.proofs.lemmas.Result.{err_from_is_err_and}
+use Rattle.control.specs.Views.{Whole, arrays_of}
+use Rattle.input_core.proofs.Checks.{established}
+use Rattle.input_core.proofs.Takes.{not_taken, begun, takes_all}
 use Rattle.input_core.proofs.input.Goals as goal
 
-pub returns-in-Err : goal.returns-in-Err
-returns-in-Err c =
-    let branch = c in
-    let checks = branch in
-    let admit = checks in
-    let sizes = admit in
-    let s = sizes in (
-      takes_nothing _ (let a = s.args in
-          link_of a.settings a.flight a.arrival a.clock
-          (arrays a.queued.now a.outstanding.now a.transmissions.now a.ready.now a.waiting.now a.waiting_numbers.now)) _ _ _ _ _
-          (refuses (let a = s.args in
-          link_of a.settings a.flight a.arrival a.clock
-          (arrays a.queued.now a.outstanding.now a.transmissions.now a.ready.now a.waiting.now a.waiting_numbers.now)) _ _ _ _ _ _ _ _
-          sizes.enough-long.ensures (let judged' : let sizes = admit in let s = sizes in
-          Admitted sizes.enough-long.result (let a = s.args in
-          link_of a.settings a.flight a.arrival a.clock
-          (arrays a.queued.now a.outstanding.now a.transmissions.now a.ready.now a.waiting.now a.waiting_numbers.now))
-          s.args.records.now s.requires.2.0 s.args.receive_marks.now
-          admit.judged-verdict.result = let fits = admit in
-          let s = fits in
-          admitted (let a = s.args in
-          link_of a.settings a.flight a.arrival a.clock
-          (arrays a.queued.now a.outstanding.now a.transmissions.now a.ready.now a.waiting.now a.waiting_numbers.now)) _ _ _ _ s.args.sound
-          _ _ admit.judged-verdict.ensures s.requires.2.1
-          (record { whole = s.requires.1; fits = fits.flight_fits-flown.ensures }) in judged')
-          _ checks.mss-mss.ensures _ _ checks.checked_by-checked.ensures _ branch.in-Err.is),
-      s.requires.1,
+pub returns-in_err-check : goal.returns-in_err-check
+returns-in_err-check c =
+    let a = c.args in
+    let p = err_from_is_err_and c.from_residual.result c.from_residual.ensures.1 in (
+      rw (p.1, p.2) (not_taken a.link.now a.records.now a.records.now a.acks.now a.pool.now a.datagram.now
+          c.mss.result c.mss.ensures c.in_err-check.field-0.0 c.in_err-check.ensures),
+      c.requires.whole,
+    )
+
+pub hear-sent-requires : goal.hear-sent-requires
+hear-sent-requires c =
+    let a = c.args in
+    let whole : Whole (arrays_of a.link.now) = search rules in
+    let ok = established a.link.now a.records.now a.marks.now a.acks.now a.pool.now c.requires whole in (
+      ok.order,
+      c.requires.whole,
+      (_, begun a.link.now a.datagram.now c.mss.result c.mss.ensures _ c.in_ok-check.ensures),
     )
 
 pub hear-requires : goal.hear-requires
 hear-requires c =
-    let branch = c in
-    let checks = branch in
-    let admit = checks in
-    let sizes = admit in
-    let s = sizes in
-    let verdict = (let judged' : let sizes = admit in let s = sizes in
-    Admitted sizes.enough-long.result (let a = s.args in
-    link_of a.settings a.flight a.arrival a.clock
-    (arrays a.queued.now a.outstanding.now a.transmissions.now a.ready.now a.waiting.now a.waiting_numbers.now))
-    s.args.records.now s.requires.2.0 s.args.receive_marks.now
-    admit.judged-verdict.result = let fits = admit in
-    let s = fits in
-    admitted (let a = s.args in
-    link_of a.settings a.flight a.arrival a.clock
-    (arrays a.queued.now a.outstanding.now a.transmissions.now a.ready.now a.waiting.now a.waiting_numbers.now)) _ _ _ _ s.args.sound _ _
-    admit.judged-verdict.ensures s.requires.2.1
-    (record { whole = s.requires.1; fits = fits.flight_fits-flown.ensures }) in judged') in
-    let passed = passes (let a = s.args in
-    link_of a.settings a.flight a.arrival a.clock
-    (arrays a.queued.now a.outstanding.now a.transmissions.now a.ready.now a.waiting.now a.waiting_numbers.now)) _ _ s.args.receive_pool.now
-    s.args.acks.now _ _ _ _ sizes.enough-long.ensures verdict
-    _ checks.mss-mss.ensures _ _ checks.checked_by-checked.ensures _ branch.in_default.is in (
-      hearable (let a = s.args in
-          link_of a.settings a.flight a.arrival a.clock
-          (arrays a.queued.now a.outstanding.now a.transmissions.now a.ready.now a.waiting.now a.waiting_numbers.now)) _ _ _ _ _ _ _ _
-          sizes.enough-long.ensures verdict s.requires.0 passed.0 refl refl,
-      s.requires.1,
-      (_, passed.1),
+    let a = c.args in
+    let whole : Whole (arrays_of a.link.now) = search rules in
+    let ok = established a.link.now a.records.now a.marks.now a.acks.now a.pool.now c.requires whole in (
+      search rules,
+      ok.marked,
+      ok.sound,
+      (_, begun a.link.now a.datagram.now c.mss.result c.mss.ensures _ c.in_ok-check.ensures),
     )
+
+pub grown-link-requires : goal.grown-link-requires
+grown-link-requires c =
+    let a = c.args in
+    let whole : Whole (arrays_of a.link.now) = search rules in
+    (established a.link.now a.records.now a.marks.now a.acks.now a.pool.now c.requires whole).growable_lem
 
 pub returns : goal.returns
 returns c =
-    let heard = c in
-    let branch = heard in
-    let checks = branch in
-    let admit = checks in
-    let sizes = admit in
-    let s = sizes in
-    let verdict = (let judged' : let sizes = admit in let s = sizes in
-    Admitted sizes.enough-long.result (let a = s.args in
-    link_of a.settings a.flight a.arrival a.clock
-    (arrays a.queued.now a.outstanding.now a.transmissions.now a.ready.now a.waiting.now a.waiting_numbers.now))
-    s.args.records.now s.requires.2.0 s.args.receive_marks.now
-    admit.judged-verdict.result = let fits = admit in
-    let s = fits in
-    admitted (let a = s.args in
-    link_of a.settings a.flight a.arrival a.clock
-    (arrays a.queued.now a.outstanding.now a.transmissions.now a.ready.now a.waiting.now a.waiting_numbers.now)) _ _ _ _ s.args.sound _ _
-    admit.judged-verdict.ensures s.requires.2.1
-    (record { whole = s.requires.1; fits = fits.flight_fits-flown.ensures }) in judged') in
-    let passed = passes (let a = s.args in
-    link_of a.settings a.flight a.arrival a.clock
-    (arrays a.queued.now a.outstanding.now a.transmissions.now a.ready.now a.waiting.now a.waiting_numbers.now)) _ _ s.args.receive_pool.now
-    s.args.acks.now _ _ _ _ sizes.enough-long.ensures verdict
-    _ checks.mss-mss.ensures _ _ checks.checked_by-checked.ensures _ branch.in_default.is in (
-      rw (admits (let a = s.args in
-          link_of a.settings a.flight a.arrival a.clock
-          (arrays a.queued.now a.outstanding.now a.transmissions.now a.ready.now a.waiting.now a.waiting_numbers.now)) _ _ _ _ _ _ _ _
-          sizes.enough-long.ensures verdict _ passed.0) heard.hear.ensures.0,
-      heard.hear.ensures.1,
+    let a = c.args in
+    let whole : Whole (arrays_of a.link.now) = search rules in
+    let ok = established a.link.now a.records.now a.marks.now a.acks.now a.pool.now c.requires whole in
+    let half = c.hear.new.half in (
+      takes_all a.link.now a.records.now a.pool.now a.acks.now a.datagram.now c.hear-sent.result half.arrival
+          c.hear-sent.new.outstanding c.hear-sent.new.transmissions half.ready.now half.waiting.now half.numbers.now
+          c.hear-sent.new.records c.hear.new.pool c.hear.new.acks _
+          (begun a.link.now a.datagram.now c.mss.result c.mss.ensures _ c.in_ok-check.ensures)
+          c.hear-sent.ensures.0 c.hear.ensures.hears ok.counts_fit_lem c.hear.auto.acks c.grown-link.result c.grown-link.ensures,
+      c.hear-sent.ensures.1,
     )
