@@ -33,7 +33,8 @@ takes_nothing o l pool acks records q e = rw e (record { answer = refl; link = r
 
 -- m is the mss of the settings: what the check of the datagram s answers
 pub not_taken : (l : Link) (records records' : List Record) (acks pool s : List ℕ) (m : ℕ) → m ≡ mss l.settings → (q : Refusal)
-    → Err q ≡ counted 0 (parse l.settings.conv m s) → Takes (input (state_of l records acks) pool s) l pool acks (Err q) l records' pool acks
+    → Err q ≡ counted 0 (parse l.settings.conv m s)
+    → Takes (input (state_of l records acks) pool s) l pool acks (Err q) l records' pool acks
 unfolding input state_of
 not_taken l records records' acks pool s m e q c =
     takes_nothing (input (state_of l records acks) pool s) l pool acks records' q
