@@ -1,12 +1,10 @@
 -- Laws of what C is told: no group has more than 12 frames, so that a count is told as it is.
 -- Assumes nothing.
-use Rattle.std.specs.Prelude.{◌≡◌, refl, Bool, true, false, cond, ◌&&◌, not, List, map, ℕ, ◌+◌, ◌*◌, ◌≤◌, ◌<◌, ◌^◌, min, leb, ltb, eqb, ℤ, pos, length}
+use Rattle.std.specs.Prelude.{◌≡◌, refl, Bool, true, false, cond, ◌&&◌, not, Result, Ok, Err, List, map, ℕ, ◌+◌, ◌*◌, ◌≤◌, ◌<◌, ◌^◌, min, leb, ltb, eqb, ℤ, pos, length}
 use Rattle.std.proofs.Common.{ap, ◌∙◌, arith, leb-true, eqb-true, SFits}
 use Rattle.std.specs.Int.{w32}
 use Rattle.codes.specs.Codes.{number_code}
 use Rattle.codes.proofs.Signs.{negative_fits}
-use Rattle.frames.specs.declared.Answer.{Answer}
-use Rattle.frames.specs.declared.Answer.TheVariants.{Written, Refused}
 use Rattle.frames.specs.declared.Refusal.{Refusal}
 use Rattle.frames.specs.declared.Refusal.TheVariants.{ShortPart, SettingOutOfRange, NotAGroup, TooFewFrames, LateGroup}
 use Rattle.frames.specs.Lists.{parts, lengths_of, every, different}
@@ -33,9 +31,9 @@ refusal_fits r = negative_fits (number_of r) (number_small r)
 pub count_fits : (n : ℕ) → SFits w32 (count_code n)
 count_fits n = record { sfits = omega arith }
 
-pub answer_fits : (a : Answer) → SFits w32 (answer_code a)
-answer_fits (Written n) = count_fits n
-answer_fits (Refused r) = refusal_fits r
+pub answer_fits : (a : Result ℕ Refusal) → SFits w32 (answer_code a)
+answer_fits (Ok n) = count_fits n
+answer_fits (Err r) = refusal_fits r
 
 -- ---- at most 12 parts
 
@@ -99,7 +97,7 @@ pub answer_told : (o : Outcome) → Few o → answer_code (answer_of o) ≡ outc
 answer_told (refused r) few = refl
 answer_told (wrote l) (some h) = let e : min (length l) 12 ≡ length l = omega arith in ap pos e
 
-pub told : (o : Outcome) (out ns : List ℕ) (a : Answer) (r : ℤ) (out' ns' : List ℕ) → Few o → r ≡ answer_code a → Gives o out ns a out' ns'
+pub told : (o : Outcome) (out ns : List ℕ) (a : Result ℕ Refusal) (r : ℤ) (out' ns' : List ℕ) → Few o → r ≡ answer_code a → Gives o out ns a out' ns'
     → Told o out ns r out' ns'
 told o out ns a r out' ns' few e g =
     record { number = e ∙ ap answer_code g.answer ∙ answer_told o few; bytes = g.bytes; lengths = g.lengths }

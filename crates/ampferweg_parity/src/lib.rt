@@ -6,13 +6,13 @@ ghost use Rattle.frames.specs.Outcomes.{write_of};
 ghost use Rattle.frames.specs.Reading.{read_of};
 ghost use Rattle.ampferweg_parity.specs.Told.{count_code, answer_code, Told};
 
-use frames::Answer;
+use frames::{Answer, Frames};
 
 // A count of frames or datagrams; no group has more than 12.
 fn count_code(n: usize) -> i32
     ensures { result ≡ count_code n }
 {
-    if n <= 12 { n as i32 } else { 12 }
+    n.min(Frames::FRAMES_MOST) as i32
 }
 
 // The count, or the refusal.
@@ -20,8 +20,8 @@ fn answer_code(answer: Answer) -> i32
     ensures { result ≡ answer_code answer }
 {
     match answer {
-        Answer::Written(n) => count_code(n),
-        Answer::Refused(refusal) => codes::number_code(refusal.number()),
+        Ok(n) => count_code(n),
+        Err(refusal) => codes::number_code(refusal.number()),
     }
 }
 
@@ -40,8 +40,7 @@ pub fn ampferweg_parity_write(
         (length out.old) (length out_lengths.old))
         out.old out_lengths.old result out.new out_lengths.new }
 {
-    let answer = parity_writer::write_group(group, k, mtu, datagrams, lengths, out, out_lengths);
-    answer_code(answer)
+    answer_code(parity_writer::write_group(group, k, mtu, datagrams, lengths, out, out_lengths))
 }
 
 // Reads a group from frames of it: the count of datagrams, or the refusal.
@@ -57,6 +56,5 @@ pub fn ampferweg_parity_read(
         (read_of k mtu frames.now lengths.now (length out.old) (length out_lengths.old))
         out.old out_lengths.old result out.new out_lengths.new }
 {
-    let answer = parity_reader::read_group(k, mtu, frames, lengths, out, out_lengths);
-    answer_code(answer)
+    answer_code(parity_reader::read_group(k, mtu, frames, lengths, out, out_lengths))
 }

@@ -205,7 +205,8 @@ module _ (a : Arrival) (ready waiting numbers : List ℕ) (long : a.ready ≤ le
         ∙ ap (λ (l : List ℕ). all_below receive_slots l && once l) receive_slots_lem
         ∙ ap (λ (b : Bool). b && u) (both_low (take a.ready ready) (take a.waiting waiting))
 
-    pub receiving_checked : receiving_fits (mss c) a.expected (take a.ready ready) (take a.waiting waiting) (take a.waiting numbers) ≡ receiving_valid c takes
+    pub receiving_checked : receiving_fits (mss c) a.expected (take a.ready ready) (take a.waiting waiting) (take a.waiting numbers)
+        ≡ receiving_valid c takes
     unfolding receiving_valid waiting_fits settled
     receiving_checked =
         let count : length (held_in ready a.ready) ≡ a.ready =

@@ -6,34 +6,18 @@ use mathlib.Core.List.{List, ◌∷◌}
 use Rattle.std.specs.Prelude.{Some, None}
 use Rattle.std.specs.declared.option.Option.{Option}
 use mathlib.Core.Bool.{cond}
-use Prim.Native.Nat.{ℕ, suc, ◌+◌, ◌-◌, ◌%◌, ◌^◌, ◌≤◌, ◌<◌, min}
+use Prim.Native.Nat.{ℕ, suc, ◌+◌, ◌-◌, ◌≤◌, ◌<◌, min}
 use native.Mathlib.Decide.{dec_lt}
 use native.Mathlib.Omega.{arith}
 use native.Mathlib.Numerals.{add-one}
-use borrow.Author.Tests.{lt-ltb, le-ltb, le-leb, lt-leb}
-use lib.Dec.{leb, ltb}
 use lib.ListN.{length, take, drop, get_or, length-replicate, drop_of_length-le}
 use lib.Seq.{take_all, drop-cons}
 use Rattle.protocol.specs.Serial.{minus}
 use Rattle.timing.specs.declared.Record.{Record}
 use Rattle.slots.specs.Slots.{once}
 use Rattle.session.specs.Valid.{all}
-use Rattle.marks.specs.Marks.{none_of, none, none_to_send, marked_all}
-use Rattle.checking.specs.Tests.{
-  follows,
-  neighbours,
-  fits_after,
-  least_after,
-  least_after_all,
-  word_fits,
-  send_word_fits,
-  sent_few,
-  send_slots_in,
-  SendingFits,
-  receive_slots_in,
-  ahead_fits,
-  ReceivingFits,
-}
+use Rattle.marks.specs.Marks.{none_of, none_to_send, marked_all}
+use Rattle.checking.specs.Tests.{follows, neighbours, fits_after, least_after, least_after_all, send_word_fits, sent_few, send_slots_in, SendingFits}
 
 pub not-true : (b : Bool) → not b ≡ true → b ≡ false
 not-true true e = sym e
@@ -74,15 +58,6 @@ module _ (ws : List ℕ) (i : ℕ) (goal fit : Bool) (low : 1 ≤ i) (inv : goal
       go : Dec (i - 1 < length ws) → goal ≡ fit
       go (yes s) = inv ∙ rw (near_front s, drop_of_length-le ws {i = i} h) (and-true fit)
       go (no s) = let q : length ws ≤ i - 1 = omega arith in inv ∙ rw (drop_of_length-le ws {i = i - 1} q) (and-true fit)
-
--- the test of two neighbours, d after the first, e one less
-pub follows_test : (a b d e : ℕ) → a < 2 ^ 32 → d ≡ minus b a → e ≡ minus d 1 → ltb e 127 ≡ follows a b
-follows_test a b d e h ed ee = let q : a % 2 ^ 32 ≡ a = omega arith in rw (q, ← ed) (go (dec_lt 0 d) (dec_lt d 128))
-  where
-    go : Dec (0 < d) → Dec (d < 128) → ltb e 127 ≡ (leb 1 d && leb d 127)
-    go (yes s) (yes t) = rw (lt-ltb e 127 (omega arith), le-leb 1 d (omega arith), le-leb d 127 (omega arith)) refl
-    go (yes s) (no t) = rw (le-ltb e 127 (omega arith), le-leb 1 d (omega arith), lt-leb d 127 (omega arith)) refl
-    go (no s) t = rw (le-ltb e 127 (omega arith), lt-leb 1 d (omega arith)) refl
 
 -- records; what is carried
 module _ (mode una next : ℕ) (rs : List Record) (i least : ℕ) (goal : Option ℕ) (d : Record) (h : i < length rs)
@@ -149,13 +124,3 @@ module _ (mss : ℕ) (queued outstanding transmissions : List ℕ) (x y z : Bool
       → marks ≡ marked_all none_to_send (send_slots_in queued outstanding)
       → SendingFits mss queued outstanding transmissions marks r
   limits_fit r t er w e = record { whole = w; fits = rw (← ex, ← ey, ← ez, not-false (x && y && z) t) er; marked = λ z. e }
-
-module _ (mss expected : ℕ) (ready waiting numbers : List ℕ) (marks : List ℕ) (x : Bool) (w : length marks ≡ 256)
-    (e : marks ≡ marked_all none (receive_slots_in ready waiting)) (ex : x ≡ once (receive_slots_in ready waiting)) where
-  pub slots_fail : not x ≡ true → ReceivingFits mss expected ready waiting numbers marks false
-  slots_fail t = record { whole = w; fits = sym (rw (← ex, not-true x t) refl); marked = λ z. e }
-
-  pub slots_fit_lem : (r : Bool) → not x ≡ false
-      → r ≡ (all (word_fits mss) ready && all (word_fits mss) waiting && ahead_fits expected (length ready) numbers)
-      → ReceivingFits mss expected ready waiting numbers marks r
-  slots_fit_lem r t er = record { whole = w; fits = rw (← ex, not-false x t) er; marked = λ z. e }

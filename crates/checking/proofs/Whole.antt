@@ -60,10 +60,6 @@ module _ (s : Settings) (f : Flight) (a : Arrival) (k : Clock) where
       let g₃ = and_parts (counted f a) (in_range s) g₂.0 in
       record { counting = g₃.0; ranges = g₃.1; round = g₂.1; probing = g₁.1; congesting = g₀.1 }
 
-  -- the counts fit
-  pub counted_of : true ≡ numbers_fit s f a k → Counts f a
-  counted_of e = counts f a (numbers_of e).counting
-
 module _ (s : Settings) (f : Flight) (a : Arrival) (k : Clock) (x : Arrays) (rs : List Record) (whole : Whole x) (many : length rs ≡ 32)
     (below : a.expected < 2 ^ 32) where
   abbrev link : Link
@@ -118,7 +114,8 @@ module _ (s : Settings) (f : Flight) (a : Arrival) (k : Clock) (x : Arrays) (rs 
               below,
         ) refl
 
-    sent_free : all_below 128 send_holds ≡ true → Free (marked_all none_to_send send_holds) (slots (send_held (state_of link rs acks).sending)) 0
+    sent_free : all_below 128 send_holds ≡ true
+        → Free (marked_all none_to_send send_holds) (slots (send_held (state_of link rs acks).sending)) 0
     unfolding state_of
     sent_free low = rw (send_slots_lem f x.queued x.outstanding x.transmissions rs long sent has) (free_start 128 send_holds low)
 
@@ -155,7 +152,8 @@ module _ (s : Settings) (f : Flight) (a : Arrival) (k : Clock) (x : Arrays) (rs 
 
   -- the sending half does not fit
   pub unsent : (p : ℕ) (send receive : List ℕ) (z : Bool) → true ≡ numbers_fit s f a k → p ≡ mss s → not z ≡ true
-      → SendingFits p (take f.queued x.queued) (take f.outstanding x.outstanding) (take f.outstanding x.transmissions) send z → length receive ≡ 256
+      → SendingFits p (take f.queued x.queued) (take f.outstanding x.outstanding) (take f.outstanding x.transmissions) send z
+      → length receive ≡ 256
       → Checked link rs send receive false
   unsent p send receive z e ep ez h er =
       let g = numbers_of s f a k e in
@@ -169,7 +167,8 @@ module _ (s : Settings) (f : Flight) (a : Arrival) (k : Clock) (x : Arrays) (rs 
 
   -- its slots are below 128 where it does
   sends_low : (p : ℕ) (send : List ℕ) (z : Bool) → not z ≡ false
-      → SendingFits p (take f.queued x.queued) (take f.outstanding x.outstanding) (take f.outstanding x.transmissions) send z → all_below 128 send_holds ≡ true
+      → SendingFits p (take f.queued x.queued) (take f.outstanding x.outstanding) (take f.outstanding x.transmissions) send z
+      → all_below 128 send_holds ≡ true
   sends_low p send z ez h =
       let fit = (and_parts _ _ (sym h.fits ∙ not-false z ez)).0 in
       let both = and_parts _ _ (and_parts _ _ fit).0 in
@@ -177,7 +176,8 @@ module _ (s : Settings) (f : Flight) (a : Arrival) (k : Clock) (x : Arrays) (rs 
 
   -- it does, and the receiving half and the records decide
   pub sent_fits_lem : (p : ℕ) (send receive : List ℕ) (z y flown : Bool) → true ≡ numbers_fit s f a k → p ≡ mss s → not z ≡ false
-      → SendingFits p (take f.queued x.queued) (take f.outstanding x.outstanding) (take f.outstanding x.transmissions) send z → flown ≡ flies
+      → SendingFits p (take f.queued x.queued) (take f.outstanding x.outstanding) (take f.outstanding x.transmissions) send z
+      → flown ≡ flies
       → ReceivingFits p a.expected (take a.ready x.ready) (take a.waiting x.waiting) (take a.waiting x.numbers) receive y
       → Checked link rs send receive (y && flown)
   sent_fits_lem p send receive z y flown e ep ez h₁ h₂ h₃ =

@@ -1,7 +1,8 @@
 // The control block of a link: small structs by value, and lists as arrays of numbers that are lent and changed in place.
 //
-// A held segment is one word (`words`); the numbers of waiting segments and the transmissions of outstanding ones stand in
-// arrays beside their words. The number, due time, timeout and skips of an outstanding segment are its record in the lent table.
+// A held segment is one word (`lists`); the numbers of waiting segments and the transmissions of outstanding ones stand in
+// arrays beside their words, and a count beside each array, as the C interface has it. The number, due time, timeout and skips of
+// an outstanding segment are its record in the lent table.
 #![tactic(auto)]
 
 use congestion::Congestion;

@@ -11,7 +11,8 @@ use Rattle.session.specs.State.{State, Outcome, refused, done, send_held, slots}
 use Rattle.session.specs.Sending.{Placed, Filled, Sends}
 use Rattle.words.specs.Words.{unpack, held_in}
 use Rattle.marks.specs.Marks.{Free}
-use Rattle.answers.specs.Answers.{Answer, Count}
+use Rattle.answers.specs.Answers.{Answer}
+use Rattle.enqueue.specs.declared.Outgoing.{Outgoing}
 
 -- the marks are those of slots held, k at most
 pub record Marked (marks : List ℕ) (k : ℕ) : Type 0 where
@@ -99,11 +100,11 @@ abbrev pub Follows : Outcome Sends → List ℕ → ℕ → List ℕ → Answer 
 Follows (refused r) before n pool answer queued after pool' = Unchanged r before n pool answer queued after pool'
 Follows (done x) before n pool answer queued after pool' = Queued x answer queued after pool'
 
--- of what enqueueing answers, with n queued before: the answer, and how many are queued then
-abbrev pub answer_of : Count → Answer
-answer_of (Ok k) = Ok tt
-answer_of (Err r) = Err r
-
-abbrev pub queued_then : ℕ → Count → ℕ
-queued_then n (Ok k) = k
-queued_then n (Err r) = n
+-- the mode, the largest payload, the marks and the lent parts are the same
+pub record Same (x x' : Outgoing) : Type 0 where
+  pub stream : x'.stream ≡ x.stream
+  pub mss : x'.mss ≡ x.mss
+  pub marks : x'.marks ≡ x.marks
+  pub queued : x'.queued.ghost_name ≡ x.queued.ghost_name
+  pub pool : x'.pool.ghost_name ≡ x.pool.ghost_name
+  pub pool_length : length x'.pool.now ≡ length x.pool.now

@@ -9,11 +9,23 @@ ghost use Rattle.session.specs.Cutting.{segment_count, pieces};
 ghost use Rattle.session.specs.Sending.{place, filled, sending};
 ghost use Rattle.session.specs.FillLaws.{room_of};
 ghost use Rattle.words.specs.Words.{held_in};
-ghost use Rattle.enqueue.specs.Enqueueing.{Marked, Stored, Fillable, Fills, Placeable, Places, Enqueueable, PartsOf, answer_of, queued_then, Follows};
+ghost use Rattle.enqueue.specs.Enqueueing.{Marked, Stored, Fillable, Fills, Placeable, Places, Enqueueable, PartsOf, Same, Follows};
 
 use answers::Answer;
 use lists::Held;
 use protocol::{Protocol, Refusal};
+
+// The sending half in lent parts: its mode, the largest payload, the queued segments and how many they are, and the send pool with
+// the marks of the slots held.
+#[derive(Drop)]
+pub struct Outgoing<'a> {
+    pub stream: bool,
+    pub mss: usize,
+    pub queued: &'a mut [u32; 128],
+    pub count: usize,
+    pub marks: &'a [u8; 128],
+    pub pool: &'a mut [u8],
+}
 
 // How many new segments so many bytes make: in stream mode none of no bytes.
 fn segment_count(stream: bool, mss: usize, len: usize) -> usize
@@ -48,35 +60,6 @@ fn last_room(stream: bool, mss: usize, queued: &[u32; 128], n: usize) -> usize
     mss.saturating_sub(last.len as usize)
 }
 
-// Where the last of n queued segments has room, it takes the first k bytes of a message behind its payload, and fragment number 0.
-fn fill(
-    mss: usize,
-    queued: &mut [u32; 128],
-    n: usize,
-    room: usize,
-    pool: &mut [u8],
-    message: &[u8],
-    k: usize,
-)
-    requires { Fillable mss queued.old n room pool.old message.now k }
-    ensures { (stream : Bool) → room ≡ room_of stream mss (held_in queued.old n) →
-        Fills (filled stream mss (held_in queued.old n) pool.old message.now) n
-        queued.new pool.new }
-{
-    if room == 0 {
-        return;
-    }
-    let last = Held::from(queued[n - 1]);
-    let len = last.len as usize;
-    pools::copy_part(message, 0, k, pool, last.slot as usize * mss + len);
-    let filled = Held {
-        len: (len + k) as u16,
-        fragment: 0,
-        ..last
-    };
-    queued[n - 1] = filled.word();
-}
-
 // The number of a fragment that has so many behind it: in stream mode 0.
 fn fragment_of(stream: bool, left: usize) -> usize
     ensures { result ≡ cond stream 0 left }
@@ -84,67 +67,88 @@ fn fragment_of(stream: bool, left: usize) -> usize
     if stream { 0 } else { left }
 }
 
-// The first `count` payloads of a message from an index on take the lowest free slots, behind the n that are queued.
-fn place(
-    stream: bool,
-    mss: usize,
-    queued: &mut [u32; 128],
-    n: usize,
-    marks: &[u8; 128],
-    pool: &mut [u8],
-    message: &[u8],
-    from: usize,
-    count: usize,
-)
-    requires { (from ≤ length message.now) × Placeable mss queued.old n marks.now pool.old count }
-    ensures { (h : Marked marks.now (send_slots - count)) →
-        Places (place stream mss h.now pool.old (pieces mss count (drop from message.now))) queued.old n
-        queued.new (n + count) pool.new }
-{
-    let mut slot = 0;
-    let mut at = from;
-    for i in 0..count {
-        slot = marks::free_from(marks, slot);
-        let len = store(mss, message, at, pool, slot);
-        let held = Held {
-            slot: slot as u16,
-            len: len as u16,
-            fragment: fragment_of(stream, count - 1 - i) as u8,
+impl<'a> Outgoing<'a> {
+    // Where the last queued segment has room, it takes the first k bytes of a message behind its payload, and fragment number 0.
+    fn fill(&mut self, room: usize, message: &[u8], k: usize)
+        requires { Fillable self.old.mss self.old.queued.now self.old.count room self.old.pool.now message.now k }
+        ensures same { Same self.old self.new × (self.new.count ≡ self.old.count) }
+        ensures fills { (stream : Bool) → room ≡ room_of stream self.old.mss (held_in self.old.queued.now self.old.count) →
+            Fills (filled stream self.old.mss (held_in self.old.queued.now self.old.count) self.old.pool.now message.now) self.old.count
+            self.new.queued.now self.new.pool.now }
+    {
+        if room == 0 {
+            return;
+        }
+        let at = self.count - 1;
+        let last = Held::from(self.queued[at]);
+        let len = last.len as usize;
+        pools::copy_part(
+            message,
+            0,
+            k,
+            self.pool,
+            last.slot as usize * self.mss + len,
+        );
+        let filled = Held {
+            len: (len + k) as u16,
+            fragment: 0,
+            ..last
         };
-        queued[n + i] = held.word();
-        slot += 1;
-        at += len;
+        self.queued[at] = filled.word();
     }
-}
 
-// A message is sent, n segments being queued and m outstanding, whose slots are marked: 10, then 11, of what is left to cut; else it is
-// queued. How many are queued then.
-pub fn enqueue(
-    stream: bool,
-    mss: usize,
-    queued: &mut [u32; 128],
-    n: usize,
-    m: usize,
-    marks: &[u8; 128],
-    pool: &mut [u8],
-    message: &[u8],
-) -> Answer<usize>
-    requires { Enqueueable mss queued.old n m marks.now pool.old }
-    ensures { (s : State) → PartsOf s stream mss queued.old n m marks.now →
-        Follows (sending s pool.old message.now) queued.old n pool.old
-        (answer_of result) (queued_then n result) queued.new pool.new }
-{
-    let room = last_room(stream, mss, queued, n);
-    let first = message.len().min(room);
-    let rest = message.len() - first;
-    if Protocol::FRAGMENTS_MOST * mss < rest {
-        return Err(Refusal::LongMessage);
+    // The first `count` payloads of a message from an index on take the lowest free slots, behind those that are queued.
+    fn place(&mut self, message: &[u8], from: usize, count: usize)
+        requires { (from ≤ length message.now)
+            × Placeable self.old.mss self.old.queued.now self.old.count self.old.marks.now self.old.pool.now count }
+        ensures same { Same self.old self.new × (self.new.count ≡ self.old.count + count) }
+        ensures places { (h : Marked self.old.marks.now (send_slots - count)) →
+            Places (place self.old.stream self.old.mss h.now self.old.pool.now (pieces self.old.mss count (drop from message.now)))
+            self.old.queued.now self.old.count self.new.queued.now (self.old.count + count) self.new.pool.now }
+    {
+        let stream = self.stream;
+        let mss = self.mss;
+        let n = self.count;
+        let marks = self.marks;
+        let mut slot = 0;
+        let mut at = from;
+        for i in 0..count {
+            slot = marks::free_from(marks, slot);
+            let len = store(mss, message, at, self.pool, slot);
+            let held = Held {
+                slot: slot as u16,
+                len: len as u16,
+                fragment: fragment_of(stream, count - 1 - i) as u8,
+            };
+            self.queued[n + i] = held.word();
+            slot += 1;
+            at += len;
+        }
+        self.count = n + count;
     }
-    let count = segment_count(stream, mss, rest);
-    if Protocol::SEND_SLOTS < m + n + count {
-        return Err(Refusal::NoFreeSlots);
+
+    // A message is sent, m segments being outstanding: 10, then 11, of what is left to cut; else it is queued.
+    pub fn enqueue(&mut self, m: usize, message: &[u8]) -> Answer<()>
+        requires { Enqueueable self.old.mss self.old.queued.now self.old.count m self.old.marks.now self.old.pool.now }
+        ensures same { Same self.old self.new }
+        ensures follows { (s : State) → PartsOf s self.old.stream self.old.mss self.old.queued.now self.old.count m self.old.marks.now →
+            Follows (sending s self.old.pool.now message.now) self.old.queued.now self.old.count self.old.pool.now
+            result self.new.count self.new.queued.now self.new.pool.now }
+    {
+        let n = self.count;
+        let queued = &mut *self.queued;
+        let room = last_room(self.stream, self.mss, queued, n);
+        let first = message.len().min(room);
+        let rest = message.len() - first;
+        if Protocol::FRAGMENTS_MOST * self.mss < rest {
+            return Err(Refusal::LongMessage);
+        }
+        let count = segment_count(self.stream, self.mss, rest);
+        if Protocol::SEND_SLOTS < m + n + count {
+            return Err(Refusal::NoFreeSlots);
+        }
+        self.fill(room, message, first);
+        self.place(message, first, count);
+        Ok(())
     }
-    fill(mss, queued, n, room, pool, message, first);
-    place(stream, mss, queued, n, marks, pool, message, first, count);
-    Ok(n + count)
 }

@@ -29,6 +29,7 @@ pub struct Packed<'a> {
     pub lengths: &'a [u16],
     pub ghost whole: { add_up lengths.now ≤ length bytes.now },
     pub ghost small: { AllBytes bytes.now },
+    pub ghost fits: { length bytes.now < 18446744073709551616 },
 }
 
 impl<'a> Packed<'a> {

@@ -1,34 +1,17 @@
 -- The turns of the loops that look through a list: at index i of the first n elements of an array.
 -- Assumes nothing.
-use mathlib.Core.Path.{◌≡◌, sym, ap, ◌∙◌}
-use mathlib.Core.Bool.{true, false}
+use mathlib.Core.Path.{◌≡◌, ap, ◌∙◌}
 use mathlib.Core.List.{List, ◌∷◌, ◌++◌}
-use Prim.Native.Nat.{ℕ, suc, ◌+◌, ◌≤◌, ◌<◌}
-use native.Mathlib.Numerals.{add-one}
+use Prim.Native.Nat.{ℕ, ◌+◌, ◌≤◌, ◌<◌}
 use native.Mathlib.Omega.{arith}
-use borrow.Author.Tests.{lt-ltb, le-ltb, eq-eqb, ne_eqb}
+use borrow.Author.Tests.{lt-ltb, eq-eqb, ne_eqb}
 use lib.ListN.{length, take, drop, get_or, length-take, length-drop, length-append, take-append-drop}
-use lib.Seq.{take-suc, append_snoc, length-take-le, get_or-take}
+use lib.Seq.{length-take-le}
 use Rattle.protocol.specs.Serial.{plus, minus}
 use Rattle.lists.specs.declared.Waiting.{Waiting}
-use Rattle.lists.specs.Orders.{is_held, insert}
+use Rattle.lists.specs.Orders.{insert}
 use Rattle.lists.specs.Receiving.{run_of}
 use Rattle.lists.proofs.Loops.{view_next, view_end}
-
-module _ {A : Type 0} (offset : A → ℕ) (l : List A) (n i : ℕ) where
-  pub held_end : (k : ℕ) → n ≤ i → is_held offset k (drop i (take n l)) ≡ false
-  unfolding is_held
-  held_end k h = rw (view_end l n i h)
-
-  -- o is the offset of the entry at i
-  module _ (d : A) (o : ℕ) (h : i < n) (g : n ≤ length l) (e : o ≡ offset (get_or l i d)) where
-    pub held_here : (k : ℕ) → o ≡ k → is_held offset k (drop i (take n l)) ≡ true
-    unfolding is_held
-    held_here k q = rw (view_next l n i d h g, ← e, eq-eqb o k q)
-
-    pub held_later : (k : ℕ) → (o ≡ k → ⊥) → is_held offset k (drop i (take n l)) ≡ is_held offset k (drop (i + 1) (take n l))
-    unfolding is_held
-    held_later k q = rw (view_next l n i d h g, ← e, ne_eqb o k q)
 
 -- The search for the place of a: the entries before index i have smaller offsets, so that a goes in behind them.
 module _ {A : Type 0} (offset : A → ℕ) (a : A) (l : List A) (n i : ℕ) (g : n ≤ length l)
@@ -59,15 +42,6 @@ module _ {A : Type 0} (offset : A → ℕ) (a : A) (l : List A) (n i : ℕ) (g :
     pub insert_here : (o ≡ k → ⊥) → k < o → insert offset a (take n l) ≡ take i (take n l) ++ (a ∷ drop i (take n l))
     unfolding insert
     insert_here p q = inv ∙ rw (view_next l n i d h g, ← e, ← f, ne_eqb o k p, lt-ltb k o q)
-
-    pub insert_later : (o ≡ k → ⊥) → o ≤ k → insert offset a (take n l) ≡ take (i + 1) (take n l)
-        ++ insert offset a (drop (i + 1) (take n l))
-    unfolding insert
-    insert_later p q =
-        let s : i < length (take n l) = rw (length-take-le n l g) h in
-        inv
-        ∙ rw (view_next l n i d h g, ← e, ← f, ne_eqb o k p, le-ltb k o q, add-one, take-suc (take n l) i d s, get_or-take n l i d h)
-        (sym (append_snoc (take i (take n l)) (get_or l i d) (insert offset a (drop (suc i) (take n l)))))
 
 -- The count of those numbered next, next + 1 and so on: i so far, and those numbered from k on.
 module _ (l : List Waiting) (n i k total : ℕ) (inv : total ≡ i + run_of k (drop i (take n l))) where

@@ -2,29 +2,19 @@
 -- Assumes nothing.
 use mathlib.Core.Path.{◌≡◌, sym, ap, ◌∙◌}
 use mathlib.Core.Bool.{Bool, true, false}
-use mathlib.Core.List.{List, [], ◌∷◌, ◌++◌, map}
+use mathlib.Core.List.{List, [], ◌∷◌, map}
 use Prim.Native.Nat.{ℕ, ◌+◌, ◌≤◌, ◌<◌}
 use lib.ListN.{length, take, drop, get_or, set}
 use native.Mathlib.Numerals.{add-one}
 use native.Mathlib.Omega.{arith}
-use lib.Seq.{take-take, drop-cons}
+use lib.Seq.{drop-cons}
 use Rattle.lists.specs.declared.Outstanding.{Outstanding}
 use Rattle.timing.specs.declared.Record.{Record}
 use Rattle.lists.specs.Acknowledging.{select}
 use Rattle.lists.specs.Joining.{with_record, joined}
-use Rattle.lists.proofs.Loops.{Written, Packed, written_put, packed_start, packed_put, packed_skip, packed_next, view_next, view_end}
+use Rattle.lists.proofs.Loops.{Packed, packed_put, packed_skip, packed_next, view_next, view_end}
 
 module _ {A : Type 0} {size n : ℕ} {l₀ l goal : List A} {i j : ℕ} (d : A) (h : i < n) where
-  -- an element is moved
-  pub packed_move : Packed size n l₀ l (drop i (take n l₀)) goal i j
-      → Packed size n l₀ (set l j (get_or l i d)) (drop (i + 1) (take n l₀)) goal (i + 1) (j + 1)
-  packed_move p = packed_put h (rw (packed_next d h p) at p)
-
-  -- a carried element is put, and the one that stood there is carried on
-  pub packed_shift : {a : A} → Packed size n l₀ l (a ∷ drop i (take n l₀)) goal i j
-      → Packed size n l₀ (set l j a) (get_or l i d ∷ drop (i + 1) (take n l₀)) goal (i + 1) (j + 1)
-  packed_shift p = packed_put h (rw (packed_next d h p) at p)
-
   -- an element that passes a test stays, another does not
   pub packed_pass : (test : A → Bool) → test (get_or l i d) ≡ true → Packed size n l₀ l (select test (drop i (take n l₀))) goal i j
       → Packed size n l₀ (set l j (get_or l i d)) (select test (drop (i + 1) (take n l₀))) goal (i + 1) (j + 1)
@@ -45,18 +35,6 @@ pub select_end : {A : Type 0} (test : A → Bool) (l : List A) (n i : ℕ) → n
 unfolding select
 select_end test l n i h = rw (view_end l n i h)
 
--- an element goes in at index j
-pub packed_insert : {A : Type 0} {size n : ℕ} {l : List A} (a : A) (j : ℕ) → j ≤ n → n ≤ size → length l ≡ size
-    → Packed size n l l (a ∷ drop j (take n l)) (take j (take n l) ++ (a ∷ drop j (take n l))) j j
-packed_insert {A} {size} {n} {l} a j h g e = rw (take-take j n l h) (packed_start (a ∷ drop j (take n l)) j j (omega arith) h g e)
-
--- the image of an element of another list is brought
-pub written_bring : {A B : Type 0} {size : ℕ} {l goal : List B} {j : ℕ} (f : A → B) (src : List A) (k m : ℕ) (d : A) → m < k
-    → k ≤ length src → j < size
-    → Written size l (map f (drop m (take k src))) goal j
-    → Written size (set l j (f (get_or src m d))) (map f (drop (m + 1) (take k src))) goal (j + 1)
-written_bring f src k m d h g b w = written_put b (rw (view_next src k m d h g) at w)
-
 -- the next segment with its record
 pub joined_next : (os : List Outstanding) (rs : List Record) (n i : ℕ) (o : Outstanding) (r : Record) → i < n → n ≤ length os
     → n ≤ length rs
@@ -65,7 +43,3 @@ unfolding joined
 joined_next os rs n i o r h g e =
     let q : i < length rs = omega arith in
     rw (view_next os n i o h g, drop-cons rs i r q ∙ ap (λ (k : ℕ). get_or rs i r ∷ drop k rs) (sym (add-one i)))
-
-pub joined_end : (os : List Outstanding) (rs : List Record) (n i : ℕ) → n ≤ i → joined (drop i (take n os)) rs ≡ []
-unfolding joined
-joined_end os rs n i h = rw (view_end os n i h)

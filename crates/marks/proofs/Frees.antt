@@ -3,8 +3,7 @@
 use mathlib.Core.Path.{◌≡◌, refl, sym, ◌∙◌}
 use mathlib.Core.Bool.{Bool, true, false, cond}
 use mathlib.Core.List.{List, ◌∷◌}
-use Prim.Native.Nat.{ℕ, zero, suc, ◌+◌, ◌-◌, ◌*◌, ◌≤◌, ◌<◌}
-use native.Mathlib.Nat.{mul-le-mul_right}
+use Prim.Native.Nat.{ℕ, zero, suc, ◌+◌, ◌-◌, ◌≤◌, ◌<◌}
 use native.Mathlib.Omega.{arith}
 use borrow.Author.Tests.{eq-eqb, ne_eqb}
 use lib.ListN.{length, get_or}
@@ -87,7 +86,3 @@ module _ {marks now : List ℕ} {k : ℕ} (f : Free marks now k) where
         walked = walked_as now' same (walked_next now f.used 256 k s (e ∙ by_used) f.walked);
         within = omega arith;
       }
-
--- the payload fits the slot
-pub slot_inside : (slots mss slot len size : ℕ) → slot < slots → len ≤ mss → slots * mss ≤ size → slot * mss + len ≤ size
-slot_inside slots mss slot len size h g b = omega (arith, mul-le-mul_right {m = slot + 1} {n = slots} mss (omega arith))

@@ -26,9 +26,6 @@ pub record Marking (size : ℕ) (before ws : List ℕ) (m : List ℕ) (once : Bo
   pub marked : marked_all before (left ws 0) ≡ marked_all m (left ws i)
   pub unmarked : unmarked_all before (left ws 0) ≡ (once && unmarked_all m (left ws i))
 
-pub marking_start : (size : ℕ) (before ws : List ℕ) → length before ≡ size → Marking size before ws before true 0
-marking_start size before ws e = record { whole = e; marked = refl; unmarked = refl }
-
 module _ {size : ℕ} {before ws : List ℕ} {m : List ℕ} {once : Bool} {i : ℕ} (p : Marking size before ws m once i) where
   pub marking_next : (s : ℕ) → s ≡ get_or ws i 0 % 256 → i < length ws
       → Marking size before ws (set m s 1) (once && eqb (get_or m s 0) 0) (i + 1)

@@ -1,10 +1,9 @@
 -- What was written one behind the other is seen again: bytes cut by their lengths.
 -- Assumes nothing.
-use Rattle.std.specs.Prelude.{◌≡◌, refl, List, [], ◌∷◌, ◌++◌, ℕ, zero, suc, ◌+◌, ◌*◌, ◌≤◌, ◌<◌, length, take, drop}
+use Rattle.std.specs.Prelude.{◌≡◌, refl, Ok, List, [], ◌∷◌, ◌++◌, ℕ, zero, suc, ◌+◌, ◌*◌, ◌≤◌, ◌<◌, length, take, drop}
 use Rattle.std.proofs.Common.{ap, ap₂, ◌∙◌, subst, append_assoc, zero-add, add-mul, add-one, arith, take_at}
 use Rattle.std.proofs.lemmas.List.Edits.{sets, sets-eq}
 use Rattle.std.proofs.Math.Seq.{take-append_seam, drop-append_seam}
-use Rattle.frames.specs.declared.Answer.TheVariants.{Written}
 use Rattle.frames.specs.Lists.{listed, joined, lengths_of, parts}
 use Rattle.frames.specs.Outcomes.{Outcome, refused, wrote, answer_of, bytes_after, lengths_after, Gives}
 use Rattle.frames.specs.PartLaws.{length_lengths, length_joined_next}
@@ -44,16 +43,16 @@ pub record Saw (o : Outcome) (n : ℕ) : Type 0 where
   pub is : o ≡ wrote parts
   pub count : n ≡ length parts
 
-pub saw : (o : Outcome) (n : ℕ) → Written n ≡ answer_of o → Saw o n
+pub saw : (o : Outcome) (n : ℕ) → Ok n ≡ answer_of o → Saw o n
 saw (refused r) n e = let z : ◌≡◌ {A = ℕ} 0 1 = cc in absurd (omega arith)
 saw (wrote l) n e = record { parts = l; is = refl; count = cc }
 
 -- what a caller sees of it
-pub seen_parts : (o : Outcome) (l : List (List ℕ)) (n : ℕ) (out lens out' lens' : List ℕ) → Gives o out lens (Written n) out' lens'
+pub seen_parts : (o : Outcome) (l : List (List ℕ)) (n : ℕ) (out lens out' lens' : List ℕ) → Gives o out lens (Ok n) out' lens'
     → o ≡ wrote l →
     length (joined l) ≤ length out → length l ≤ length lens → parts out' (take n lens') ≡ l
 seen_parts o l n out lens out' lens' g e h k =
-    let q : n ≡ length l = (let z : Written n ≡ answer_of (wrote l) = g.answer ∙ ap answer_of e in cc) in
+    let q : n ≡ length l = (let z : Ok n ≡ answer_of (wrote l) = g.answer ∙ ap answer_of e in cc) in
     let a : out' ≡ sets out 0 (joined l) = g.bytes ∙ ap (λ (p : Outcome). bytes_after p out) e in
     let b : lens' ≡ sets lens 0 (lengths_of l) = g.lengths ∙ ap (λ (p : Outcome). lengths_after p lens) e in
     ap₂ parts a (ap₂ take q b) ∙ seen_again l out lens h k

@@ -1,13 +1,12 @@
 -- Datagrams of the sender that come back from frames. Definitions.
 -- Assumes nothing.
-use Rattle.std.specs.Prelude.{◌⊎◌, ℕ, length, take}
+use Rattle.std.specs.Prelude.{◌⊎◌, Ok, ℕ, length, take}
 use mathlib.Core.List.{List, [], ◌∷◌, Memᴰ}
 use Rattle.wire.specs.LittleEndian.{AllBytes}
 use Rattle.session.specs.Decides.{All}
 use Rattle.session.specs.Calls.{Call}
 use Rattle.frames.specs.Lists.{parts}
 use Rattle.frames.specs.Outcomes.{Gives, write_of}
-use Rattle.frames.specs.declared.Answer.TheVariants.{Written}
 use Rattle.frames.specs.Reading.{read_of}
 
 -- d is returned by the reader from frames of one group, as the writer made it from datagrams that were sent: a call of the writer that was
@@ -27,7 +26,7 @@ pub record Recovered (sent : List (List ℕ)) (d : List ℕ) : Type 0 where
   pub count : ℕ
   pub out' : List ℕ
   pub out_lengths' : List ℕ
-  pub writes : Gives (write_of group k mtu datagrams lengths (length out) (length out_lengths)) out out_lengths (Written count) out'
+  pub writes : Gives (write_of group k mtu datagrams lengths (length out) (length out_lengths)) out out_lengths (Ok count) out'
       out_lengths'
   -- the reader is lent frames that it wrote
   pub frames : List ℕ
@@ -38,7 +37,7 @@ pub record Recovered (sent : List (List ℕ)) (d : List ℕ) : Type 0 where
   pub back_count : ℕ
   pub back' : List ℕ
   pub back_lengths' : List ℕ
-  pub reads : Gives (read_of k mtu frames frame_lengths (length back) (length back_lengths)) back back_lengths (Written back_count) back'
+  pub reads : Gives (read_of k mtu frames frame_lengths (length back) (length back_lengths)) back back_lengths (Ok back_count) back'
       back_lengths'
   pub among : Memᴰ d (parts back' (take back_count back_lengths'))
 

@@ -17,10 +17,10 @@ use Rattle.frames.specs.PlaceLaws.{length_listed, get_d_listed}
 use Rattle.frames.specs.PartLaws.{length_part, lengths_next}
 use Rattle.frames.specs.FrameLaws.{length_shard, shard_low, shard_high, shard_byte_lem}
 use Rattle.frames.specs.OutcomeLaws.{and_left, and_right}
-use Rattle.parity_scan.specs.Held.{shard_in}
-use Rattle.parity_found.specs.declared.Group.{Group}
+use Rattle.parity_scan.specs.Held.{at_in, size_in}
+use Rattle.parity_found.specs.declared.found.Group.{Group}
 use Rattle.parity_found.specs.ReadyLaws.{whole_sized, len_sized}
-use Rattle.parity_found.specs.Ready.{Ready, len_in, datagram_in, found_in, Whole}
+use Rattle.parity_found.specs.Ready.{Ready, shards_in, len_in, datagram_in, found_in, Whole}
 
 -- ---- lengths
 
@@ -159,17 +159,17 @@ found_most k b mtu i n h l e = let m : length (datagram_at k b i) ≤ mtu = lens
 
 -- ---- a slice that begins with a shard
 
-module _ (g : Group) (s : List ℕ) (p : ℕ) (l : List ℕ) (w : Whole g s p l) where
+module _ (g : Group) (p : ℕ) (l : List ℕ) (w : Whole g p l) where
   first_two : number_at 2 l 0 ≡ get_or l 0 0 + 256 * get_or l 1 0
   unfolding number_at
   first_two = omega arith
 
-  pub whole_len : (n : ℕ) → n ≡ number_at 2 l 0 → n ≡ len_in g s p
+  pub whole_len : (n : ℕ) → n ≡ number_at 2 l 0 → n ≡ len_in g p
   unfolding len_at
   whole_len n e =
       e ∙ first_two ∙ ap₂ (λ (x y : ℕ). x + 256 * y) (w.byte 0 (omega (arith, w.two))) (w.byte 1 (omega (arith, w.two)))
 
-  len_of_of : (n : ℕ) → n ≡ len_in g s p → LenOf g.k (shard_in s g.held) p n
+  len_of_of : (n : ℕ) → n ≡ len_in g p → LenOf g.shape.k (shards_in g) p n
   len_of_of n e = record {
     is = e;
     low = rw (← w.byte 0 (omega (arith, w.two))) (w.small 0);
@@ -177,34 +177,34 @@ module _ (g : Group) (s : List ℕ) (p : ℕ) (l : List ℕ) (w : Whole g s p l)
   }
 
   -- as its len says
-  pub whole_trimmed : (n : ℕ) → n ≡ len_in g s p → 26 ≤ n → n ≤ g.mtu + 2 → take n l ≡ shard (datagram_in g s p)
+  pub whole_trimmed : (n : ℕ) → n ≡ len_in g p → 26 ≤ n → n ≤ g.shape.mtu + 2 → take n l ≡ shard (datagram_in g p)
   whole_trimmed n e least most =
-      let m : n ≤ length l = (let f : len_in g s p ≤ length l = w.fits (omega (arith, e)) in omega (arith, e)) in
+      let m : n ≤ length l = (let f : len_in g p ≤ length l = w.fits (omega (arith, e)) in omega (arith, e)) in
       let z : length (take n l) ≡ n = simp length-take (omega arith) in
-      ext_get_or 0 (take n l) (shard (datagram_in g s p))
-      (z ∙ sym (length_shard (datagram_in g s p) ∙ omega (arith, length_datagram g.k (shard_in s g.held) p n e)))
+      ext_get_or 0 (take n l) (shard (datagram_in g p))
+      (z ∙ sym (length_shard (datagram_in g p) ∙ omega (arith, length_datagram g.shape.k (shards_in g) p n e)))
       (λ x i.
       get_or-take n l x 0 (omega (arith, z)) ∙ w.byte x (omega (arith, z))
-      ∙ shard_in_lem g.k (shard_in s g.held) p n x (len_of_of n e) (omega arith) (omega (arith, z)))
+      ∙ shard_in_lem g.shape.k (shards_in g) p n x (len_of_of n e) (omega arith) (omega (arith, z)))
 
 -- the shard that is held for a place, found again where it lies
 pub itself :
-    (g : Group) (s a b : List ℕ) →
-    Ready g s a b →
+    (g : Group) →
+    Ready g →
     (p at n : ℕ) →
-    p < g.k →
+    p < g.shape.k →
     0 < n →
-    at ≡ get_or g.held.at p 0 →
-    n ≡ get_or g.held.size p 0 →
-    lengths_ok g.mtu (lengths_of (found_in g s)) ≡ true →
-    take n (drop at s) ≡ shard (datagram_in g s p)
-itself g s a b r p at n l pos ea en ok =
-    let w = whole_sized g s a b r p n l pos en in
-    let e = len_sized g s a b r p n l pos en in
+    at ≡ at_in g.held p →
+    n ≡ size_in g.held p →
+    lengths_ok g.shape.mtu (lengths_of (found_in g)) ≡ true →
+    take n (drop at g.frames.bytes.now) ≡ shard (datagram_in g p)
+itself g r p at n l pos ea en ok =
+    let w = whole_sized g r p n l pos en in
+    let e = len_sized g r p n l pos en in
     let i = r.inside.inside p in
-    let z : length (take n (drop (get_or g.held.at p 0) s)) ≡ n = length_part s (get_or g.held.at p 0) n (omega (arith, i)) in
-    ap (λ (q : ℕ). take n (drop q s)) ea
-    ∙ sym (take_all n (take n (drop (get_or g.held.at p 0) s)) (omega (arith, z)))
-    ∙ whole_trimmed g s p (take n (drop (get_or g.held.at p 0) s)) w n e
-    (omega (arith, e, lens_least g.k (shard_in s g.held) g.mtu p l ok))
-    (omega (arith, found_most g.k (shard_in s g.held) g.mtu p n e l ok))
+    let z : length (take n (drop (at_in g.held p) g.frames.bytes.now)) ≡ n = length_part g.frames.bytes.now (at_in g.held p) n (omega (arith, i)) in
+    ap (λ (q : ℕ). take n (drop q g.frames.bytes.now)) ea
+    ∙ sym (take_all n (take n (drop (at_in g.held p) g.frames.bytes.now)) (omega (arith, z)))
+    ∙ whole_trimmed g p (take n (drop (at_in g.held p) g.frames.bytes.now)) w n e
+    (omega (arith, e, lens_least g.shape.k (shards_in g) g.shape.mtu p l ok))
+    (omega (arith, found_most g.shape.k (shards_in g) g.shape.mtu p n e l ok))

@@ -1,6 +1,6 @@
 -- The reader's tests in turn.
 -- Assumes nothing.
-use Rattle.std.specs.Prelude.{◌≡◌, Bool, cond, ◌&&◌, leb, length, take, drop}
+use Rattle.std.specs.Prelude.{◌≡◌, Bool, cond, ◌&&◌, Result, leb, length, take, drop}
 use Rattle.std.proofs.Math.Path.{refl, sym, ap}
 use Rattle.std.proofs.Common.{◌∙◌, subst, arith, length-append, length-drop, take_at, length-take-le}
 use Rattle.std.proofs.Math.Bool.{true, false}
@@ -8,22 +8,21 @@ use mathlib.Core.List.{List, [], ◌∷◌, ◌++◌, map}
 use Prim.Native.Nat.{ℕ, ◌+◌, ◌-◌, ◌*◌, ◌≤◌, ◌<◌}
 use borrow.Author.Tests.{leb-true, eqb-true, ltb-true, lt-ltb, le-ltb}
 use Rattle.std.proofs.Math.Dec.{eqb}
-use Rattle.std.proofs.Math.ListN.{get_or}
-use Rattle.wire.specs.LittleEndian.{number_at, AllBytes}
+use Rattle.wire.specs.LittleEndian.{number_at}
 use Rattle.wire.specs.LittleEndianLaws.{number_at_drop}
+use Rattle.frames.specs.declared.Refusal.{Refusal}
 use Rattle.frames.specs.declared.Refusal.TheVariants.{ShortPart, SettingOutOfRange, NotAGroup, TooFewFrames}
-use Rattle.frames.specs.declared.Answer.{Answer}
 use Rattle.frames.specs.Lists.{lengths_of, parts, add_up, count, other, every, different}
 use Rattle.frames.specs.Outcomes.{Outcome, refused, wrote, Gives, settings_ok, lent_ok, lengths_ok}
 use Rattle.frames.specs.Reading.{sequence_of, place_of, frame_ok, first_group, held_shard, has, rest, found, holds, read_group, read_frames, read_of}
 use Rattle.frames.specs.OutcomeLaws.{and_left, and_right}
 use Rattle.recovery.specs.ReadingLaws.{Passes, passes, every_first, places_held}
-use Rattle.parity_scan.specs.declared.Held.{Held}
-use Rattle.parity_scan.specs.declared.Scanned.{Scanned}
-use Rattle.parity_scan.specs.Held.{shard_in, sized, Gathered, Scans}
+use Rattle.parity_scan.specs.declared.scan.Scanned.{Scanned}
+use Rattle.parity_scan.specs.Held.{Held, size_in, shard_in, sized, Gathered, Found}
 use Rattle.parity_scan.specs.HeldLaws.{has_sized, length_shard_in}
-use Rattle.parity_restore.specs.Restored.{Within, Restored}
-use Rattle.parity_found.specs.Ready.{Ready}
+use Rattle.parity_restore.specs.Restored.{place, Within, Restored}
+use Rattle.parity_found.specs.declared.found.Group.{Group}
+use Rattle.parity_found.specs.Ready.{shards_in, Ready}
 
 -- ---- a shard that frames which passed give
 
@@ -63,7 +62,7 @@ module _ (k mtu g : ℕ) (s ns : List ℕ) (h : Held) (all : every (frame_ok k m
   proper : (p : ℕ) → Proper k mtu p (shard_in s h p)
   proper p = subst (Proper k mtu p) (sym (ga.shards p)) (held_proper k mtu g (parts s ns) all p)
 
-  size_is : (p : ℕ) → length (shard_in s h p) ≡ get_or h.size p 0
+  size_is : (p : ℕ) → length (shard_in s h p) ≡ size_in h p
   size_is p = length_shard_in s h ga.inside p
 
   pub within : (m : ℕ) → m ≡ mtu + 2 → Within h m
@@ -71,37 +70,13 @@ module _ (k mtu g : ℕ) (s ns : List ℕ) (h : Held) (all : every (frame_ok k m
 
   some : (p : ℕ) → sized h p ≡ true → 0 < length (shard_in s h p)
   unfolding sized
-  some p e = let l : 0 < get_or h.size p 0 = ltb-true 0 (get_or h.size p 0) e in omega (arith, size_is p)
+  some p e = let l : 0 < size_in h p = ltb-true 0 (size_in h p) e in omega (arith, size_is p)
 
-  pub ready :
-      (c i j m : ℕ) (a b ra rb : List ℕ) →
-      AllBytes s →
-      k ≤ 10 →
-      mtu ≤ 1400 →
-      c ≡ count (sized h) (k + 2) →
-      k ≤ c →
-      i ≡ other (sized h) 12 k →
-      j ≡ other (sized h) i k →
-      m ≡ mtu + 2 →
-      Restored k (shard_in s h) i j m a b →
-      Ready (record { k = k; mtu = mtu; first = i; second = j; held = h }) s (take (mtu + 2) (a ++ ra)) (take (mtu + 2) (b ++ rb))
-  ready c i j m a b ra rb by few small ec enough ei ej em r =
-      subst (Ready (record { k = k; mtu = mtu; first = i; second = j; held = h }) s (take (mtu + 2) (a ++ ra)))
-      (sym (take_at b rb (mtu + 2) (r.size_b ∙ em)))
-      (subst (λ (x : List ℕ). Ready (record { k = k; mtu = mtu; first = i; second = j; held = h }) s x b)
-      (sym (take_at a ra (mtu + 2) (r.size_a ∙ em)))
-      (record {
-        bytes = by;
-        few = few;
-        small = small;
-        inside = ga.inside;
-        enough = omega (arith, ec, enough);
-        first = ei;
-        second = ej;
-        restored = subst (λ (x : ℕ). Restored k (shard_in s h) i j x a b) em r;
-        long = λ p e. omega (arith, size_is p, (proper p).long (some p e));
-        len = λ p l e. (proper p).len l (some p e) ∙ size_is p;
-      }))
+  pub long : (p : ℕ) → sized h p ≡ true → 26 ≤ size_in h p
+  long p e = omega (arith, size_is p, (proper p).long (some p e))
+
+  pub len_right : (p : ℕ) → p < k → sized h p ≡ true → number_at 2 (shard_in s h p) 0 ≡ size_in h p
+  len_right p l e = (proper p).len l (some p e) ∙ size_is p
 
   counts_are : different (map sequence_of (parts s ns)) ≡ count (sized h) (k + 2)
   counts_are =
@@ -134,6 +109,33 @@ module _ (k mtu g : ℕ) (s ns : List ℕ) (h : Held) (all : every (frame_ok k m
       && every (holds k (g * (k + 2)) (found k (held_shard k (parts s ns)))) (parts s ns)) ≡ true =
       ap verdict (sym shards_are) ∙ v in
       rw (counts_are, ← e, le-ltb n k l, w) (ap (λ (b : ℕ → List ℕ). wrote (found k b)) (sym shards_are))
+
+-- the group that is made of what is held and restored
+pub ready :
+    (gr : Group) (g c m : ℕ) (a b ra rb : List ℕ) →
+    Found gr.frames.bytes.now gr.frames.lengths.now gr.shape.k gr.shape.mtu g (record { group = g; held = gr.held }) →
+    c ≡ count (sized gr.held) (gr.shape.k + 2) →
+    gr.shape.k ≤ c →
+    place gr.first ≡ other (sized gr.held) 12 gr.shape.k →
+    place gr.second ≡ other (sized gr.held) (place gr.first) gr.shape.k →
+    m ≡ gr.shape.mtu + 2 →
+    Restored gr.shape.k (shards_in gr) (place gr.first) (place gr.second) m a b →
+    gr.a.now ≡ take (gr.shape.mtu + 2) (a ++ ra) →
+    gr.b.now ≡ take (gr.shape.mtu + 2) (b ++ rb) →
+    Ready gr
+ready gr g c m a b ra rb f ec enough ei ej em r ea eb =
+    let x : gr.a.now ≡ a = ea ∙ take_at a ra (gr.shape.mtu + 2) (r.size_a ∙ em) in
+    let y : gr.b.now ≡ b = eb ∙ take_at b rb (gr.shape.mtu + 2) (r.size_b ∙ em) in
+    record {
+      inside = f.held.inside;
+      places = f.places;
+      enough = omega (arith, ec, enough);
+      first = ei;
+      second = ej;
+      restored = rw (x, y, ← em) r;
+      long = long gr.shape.k gr.shape.mtu g gr.frames.bytes.now gr.frames.lengths.now gr.held f.right f.held;
+      len = len_right gr.shape.k gr.shape.mtu g gr.frames.bytes.now gr.frames.lengths.now gr.held f.right f.held;
+    }
 
 -- what stands at the start of a row
 prefix : (l rest : List ℕ) (n : ℕ) → length l ≡ n → (n ≤ length (l ++ rest)) × (n ≡ length (take n (l ++ rest)))
@@ -174,19 +176,18 @@ module _ (k mtu : ℕ) (s ns : List ℕ) (room slots : ℕ) (lent : lent_ok (len
     pub small : mtu ≤ 1400
     small = leb-true mtu 1400 (and_right (leb 1 k && leb k 10 && leb 50 mtu) (leb mtu 1400) settings)
 
-    pub read_21 : (r : Scanned) → Scans s ns k mtu (first_group k (parts s ns)) r → r.ok ≡ false
-        → read_of k mtu s ns room slots ≡ refused NotAGroup
+    pub read_21 : every (frame_ok k mtu (first_group k (parts s ns))) (parts s ns) ≡ false → read_of k mtu s ns room slots ≡ refused NotAGroup
     unfolding read_of read_frames
-    read_21 r f e = rw (lent, settings, sym f.right ∙ e)
+    read_21 e = rw (lent, settings, e)
 
-    pub passed : (r : Scanned) → Scans s ns k mtu (first_group k (parts s ns)) r → r.ok ≡ true
-        → every (frame_ok k mtu r.group) (parts s ns) ≡ true
-    passed r f e = ap (λ (n : ℕ). every (frame_ok k mtu n) (parts s ns)) (f.group e) ∙ sym f.right ∙ e
-
-    pub read_rest : (r : Scanned) → Scans s ns k mtu (first_group k (parts s ns)) r → r.ok ≡ true →
-        read_group k mtu r.group (parts s ns) ≡ read_of k mtu s ns room slots
+    pub read_rest : (x : Scanned) → Found s ns k mtu (first_group k (parts s ns)) x →
+        read_group k mtu x.group (parts s ns) ≡ read_of k mtu s ns room slots
     unfolding read_of read_frames
-    read_rest r f e = rw (lent, settings, sym f.right ∙ e) (ap (λ (n : ℕ). read_group k mtu n (parts s ns)) (f.group e))
+    read_rest x f = rw (lent, settings, f.right) (ap (λ (n : ℕ). read_group k mtu n (parts s ns)) f.group)
+
+-- the group that was found is its own
+pub found_own : (s ns : List ℕ) (k mtu n : ℕ) (x : Scanned) → Found s ns k mtu n x → Found s ns k mtu x.group x
+found_own s ns k mtu n x f = subst (λ (m : ℕ). Found s ns k mtu m x) (sym f.group) f
 
 pub read_7 : (k mtu : ℕ) (s ns : List ℕ) (room slots : ℕ) → lent_ok (length s) ns 10 mtu room slots ≡ false
     → read_of k mtu s ns room slots ≡ refused ShortPart
@@ -194,6 +195,6 @@ unfolding read_of
 read_7 k mtu s ns room slots a = rw a
 
 -- the same answer by an equal outcome
-pub carried : (o p : Outcome) (a : Answer) (out lens out' lens' : List ℕ) → o ≡ p → Gives o out lens a out' lens'
+pub carried : (o p : Outcome) (a : Result ℕ Refusal) (out lens out' lens' : List ℕ) → o ≡ p → Gives o out lens a out' lens'
     → Gives p out lens a out' lens'
 carried o p a out lens out' lens' e t = subst (λ (q : Outcome). Gives q out lens a out' lens') e t

@@ -1,8 +1,10 @@
 -- Steps of the comparison of what is found with the frames given.
 -- Assumes nothing.
-use Rattle.std.specs.Prelude.{◌≡◌, refl, Bool, true, false, cond, List, [], ◌∷◌, ◌++◌, ℕ, zero, suc, ◌+◌, ◌-◌, ◌*◌, ◌%◌, ◌≤◌, ◌<◌, eqb, ltb, length, get_or, take, drop}
-use Rattle.std.proofs.Common.{sym, ap, ap₂, ◌∙◌, subst, div-add-mod', not-suc-le-zero, add-one, arith, ltb-true, ltb-false, eq-eqb, ne_eqb, length-append, take-append-drop, drop_of_length-le, take_at, drop-cons, drop-drop}
+use Rattle.std.specs.Prelude.{◌≡◌, refl, Bool, true, false, cond, ◌&&◌, Option, None, Some, slice_index_or, List, [], ◌∷◌, ◌++◌, ℕ, zero, suc, ◌+◌, ◌-◌, ◌*◌, ◌%◌, ◌≤◌, ◌<◌, eqb, ltb, length, get_or, take, drop}
+use Rattle.std.proofs.Common.{sym, ap, ap₂, ◌∙◌, subst, div-add-mod', not-suc-le-zero, arith, ltb-true, ltb-false, eq-eqb, length-append, take-append-drop, drop_of_length-le, take_at, drop-drop}
 use Rattle.std.proofs.Math.ListN.{get_or-eq_default}
+use Rattle.std.specs.Cmp.Lexicographic.{pointwise}
+use Rattle.std.proofs.lemmas.List.{get_or_default}
 use Rattle.wire.specs.LittleEndian.{bytes_of, number_at, AllBytes}
 use Rattle.wire.specs.LittleEndianLaws.{bytes_of_number}
 use Rattle.galois.specs.Field.{plus, mul, power, inverse}
@@ -18,48 +20,26 @@ use Rattle.frames.specs.OutcomeLaws.{add_up_most, same_self}
 use Rattle.frames.specs.WeightLaws.{tail, row_listed, row_same, steps_none, steps_next, steps_done, added_from_0}
 use Rattle.rows.specs.Rows.{Row, behind, stepped}
 use Rattle.recovery.specs.ReadingLaws.{Passes, passes, every_first}
-use Rattle.parity_scan.specs.declared.Held.{Held}
-use Rattle.parity_scan.specs.Held.{shard_in}
+use Rattle.parity_scan.specs.Held.{Held, span_at, span_size, at_in, size_in, shard_in}
 use Rattle.parity_scan.specs.ScanLaws.{drop_take, every_cons, every_stop}
-use Rattle.parity_found.specs.declared.Group.{Group}
-use Rattle.parity_found.specs.Ready.{byte_in, len_in, datagram_in, found_in}
-use Rattle.parity_found.specs.FoundLaws.{found_at, length_found}
+use Rattle.parity_found.specs.declared.found.Group.{Group}
+use Rattle.parity_found.specs.Ready.{Ready, shards_in, byte_in, len_in, datagram_in, found_in}
+use Rattle.parity_found.specs.FoundLaws.{found_at, length_found, itself}
+use Rattle.parity_scan.specs.declared.held.Span.{Span}
 use Rattle.parity_restore.specs.RestoreLaws.{rest_small}
 
 -- ---- lists compared
 
-pub same_step : (a c : List ℕ) (x : ℕ) → x < length a → length a ≡ length c → get_or a x 0 ≡ get_or c x 0
-    → same (drop x a) (drop x c) ≡ same (drop (x + 1) a) (drop (x + 1) c)
+pub same_is : (a c : List ℕ) → pointwise eqb a c ≡ same a c
 unfolding same
-same_step a c x l e q =
-    let m : x < length c = omega arith in
-    rw (add-one, drop-cons a x 0, drop-cons c x 0, eq-eqb (get_or a x 0) (get_or c x 0) q)
-
-pub same_stop : (a c : List ℕ) (x : ℕ) → x < length a → length a ≡ length c → (get_or a x 0 ≡ get_or c x 0 → ⊥)
-    → same (drop x a) (drop x c) ≡ false
-unfolding same
-same_stop a c x l e q =
-    let m : x < length c = omega arith in
-    rw (drop-cons a x 0, drop-cons c x 0, ne_eqb (get_or a x 0) (get_or c x 0) q)
-
-pub same_end : (a c : List ℕ) (x : ℕ) → length a ≤ x → length a ≡ length c → same (drop x a) (drop x c) ≡ true
-unfolding same
-same_end a c x l e =
-    let m : length c ≤ x = omega arith in
-    rw (drop_of_length-le a l, drop_of_length-le c m)
-
-pub same_length : (a c : List ℕ) → (length a ≡ length c → ⊥) → same a c ≡ false
-unfolding same
-same_length [] [] d = absurd (d refl)
-same_length [] (y ∷ c) d = refl
-same_length (x ∷ a) [] d = refl
-same_length (x ∷ a) (y ∷ c) d = go (eqb x y) (same_length a c (λ e. d (ap suc e)))
+same_is [] [] = refl
+same_is [] (y ∷ c) = refl
+same_is (x ∷ a) [] = refl
+same_is (x ∷ a) (y ∷ c) = go (eqb x y) (same_is a c)
   where
-    go : (b : Bool) → same a c ≡ false → cond b (same a c) false ≡ false
+    go : (b : Bool) → pointwise eqb a c ≡ same a c → (b && pointwise eqb a c) ≡ cond b (same a c) false
     go true e = e
     go false e = refl
-
--- ---- the group that is made of what is found
 
 -- equal lists are the same
 pub same_equal : (a c : List ℕ) → a ≡ c → same a c ≡ true
@@ -78,11 +58,27 @@ module _ (k : ℕ) (b : ℕ → List ℕ) where
       let e : p ≡ length (found k b) + (p - k) = (let f : length (found k b) ≡ k = length_found k b in omega arith) in
       sym (ap (shard_at (found k b)) e ∙ shard_at_parity (found k b) (p - k))
 
+-- the shard that is held for place p, met where it lies
+pub same_itself : (g : Group) (p at n : ℕ) (x : Span) (d : Option Span) → Ready g → p < g.shape.k → slice_index_or g.held p d ≡ Some x
+    → x.at ≡ at → x.size ≡ n → lengths_ok g.shape.mtu (lengths_of (found_in g)) ≡ true
+    → true ≡ same (take n (drop at g.frames.bytes.now)) (shard_at (found_in g) p)
+same_itself g p at n x d r l e ea en ok =
+    let z : slice_index_or g.held p None ≡ Some x = get_or_default g.held p None d (omega (arith, r.places, g.shape.few)) ∙ e in
+    let pos : 0 < n = omega (arith, x.some) in
+    sym (same_equal _ _ (itself g r p at n l pos (sym (ap span_at z ∙ ea)) (sym (ap span_size z ∙ en)) ok
+    ∙ made_data g.shape.k (shards_in g) p l))
+
+-- n bytes at `at` compared with c
+pub same_part : (s : List ℕ) (at n : ℕ) (t c : List ℕ) → t ≡ c → pointwise eqb (take (at + n - at) (drop at s)) t ≡ same (take n (drop at s)) c
+same_part s at n t c e =
+    let z : at + n - at ≡ n = omega arith in
+    same_is (take (at + n - at) (drop at s)) t ∙ ap₂ (λ (m : ℕ) (x : List ℕ). same (take m (drop at s)) x) z e
+
 -- ---- the parity shards of what is found, from the last place to the first
 
 -- byte x of the shard at place q; beyond the last place nothing
-abbrev pub found_byte : Group → List ℕ → ℕ → ℕ → ℕ
-found_byte g s x q = get_or (shard (get_or (found_in g s) q [])) x 0
+abbrev pub found_byte : Group → ℕ → ℕ → ℕ
+found_byte g x q = get_or (shard (get_or (found_in g) q [])) x 0
 
 solved_small : (k : ℕ) (s : List ℕ) (h : Held) → AllBytes s → (i j x : ℕ) → solved k (shard_in s h) i j x < 256
 unfolding solved
@@ -106,7 +102,7 @@ unfolding byte_at shard_in
 byte_small k s h by i x = go (has (shard_in s h) i)
   where
     go : (c : Bool) → cond c (get_or (shard_in s h i) x 0) (solved k (shard_in s h) i (other (has (shard_in s h)) i k) x) < 256
-    go true = part_bytes s (get_or h.at i 0) (get_or h.size i 0) by x
+    go true = part_bytes s (at_in h i) (size_in h i) by x
     go false = solved_small k s h by i (other (has (shard_in s h)) i k) x
 
 listed_small : (f : ℕ → ℕ) → ((x : ℕ) → f x < 256) → (n x : ℕ) → get_or (listed f n) x 0 < 256
@@ -119,46 +115,49 @@ listed_small f h n x = go (ltb x n) refl
         let m : length (listed f n) ≤ x = rw (length_listed f n) l in
         rw (get_or-eq_default (listed f n) 0 m) (omega arith)
 
-pub found_small : (g : Group) (s : List ℕ) → AllBytes s → (x q : ℕ) → found_byte g s x q < 256
+pub found_small : (g : Group) → (x q : ℕ) → found_byte g x q < 256
 unfolding datagram_at
-found_small g s by x q = shard_bytes (get_or (found_in g s) q []) (each (ltb q g.k) refl) x
+found_small g x q = shard_bytes (get_or (found_in g) q []) (each (ltb q g.shape.k) refl) x
   where
-    each : (c : Bool) → ltb q g.k ≡ c → (y : ℕ) → get_or (get_or (found_in g s) q []) y 0 < 256
+    each : (c : Bool) → ltb q g.shape.k ≡ c → (y : ℕ) → get_or (get_or (found_in g) q []) y 0 < 256
     each true e y =
-        rw (found_at g.k (shard_in s g.held) q (ltb-true q g.k e))
-        (listed_small (λ z. byte_in g s q (z + 2)) (λ z. byte_small g.k s g.held by q (z + 2)) (len_in g s q - 2) y)
+        rw (found_at g.shape.k (shards_in g) q (ltb-true q g.shape.k e))
+        (listed_small (λ z. byte_in g q (z + 2)) (λ z. byte_small g.shape.k g.frames.bytes.now g.held g.frames.small q (z + 2)) (len_in g q - 2) y)
     each false e y =
-        let l : g.k ≤ q = ltb-false q g.k e in
-        let m : length (found_in g s) ≤ q = rw (length_found g.k (shard_in s g.held)) l in
-        rw (get_or-eq_default (found_in g s) [] m) (omega arith)
+        let l : g.shape.k ≤ q = ltb-false q g.shape.k e in
+        let m : length (found_in g) ≤ q = rw (length_found g.shape.k (shards_in g)) l in
+        rw (get_or-eq_default (found_in g) [] m) (omega arith)
 
-module _ (w : ℕ) (g : Group) (s : List ℕ) (small : (x q : ℕ) → found_byte g s x q < 256) where
-  pub found_none : (m n : ℕ) (row : List ℕ) → m ≡ n → Row (λ x. 0) m row → Row (λ x. tail w (found_byte g s x) g.k g.k) n row
-  found_none = steps_none w (found_byte g s) small g.k
+module _ (w : ℕ) (g : Group) where
+  small : (x q : ℕ) → found_byte g x q < 256
+  small = found_small g
+
+  pub found_none : (m n : ℕ) (row : List ℕ) → m ≡ n → Row (λ x. 0) m row → Row (λ x. tail w (found_byte g x) g.shape.k g.shape.k) n row
+  found_none = steps_none w (found_byte g) small g.shape.k
 
   pub found_next :
       (p q n : ℕ) (t row row₁ row₂ : List ℕ) →
       p ≡ q + 1 →
-      q < g.k →
-      t ≡ shard (datagram_in g s q) →
-      Row (λ x. tail w (found_byte g s x) p g.k) n row →
+      q < g.shape.k →
+      t ≡ shard (datagram_in g q) →
+      Row (λ x. tail w (found_byte g x) p g.shape.k) n row →
       Row (λ x. stepped w (get_or row x 0)) (length row) row₁ →
       Row (λ x. plus (get_or row₁ x 0) (behind 0 t x)) (length row₁) row₂ →
-      Row (λ x. tail w (found_byte g s x) q g.k) n row₂
+      Row (λ x. tail w (found_byte g x) q g.shape.k) n row₂
   found_next p q n t row row₁ row₂ ep l et r r₁ r₂ =
-      steps_next w (found_byte g s) small g.k p q n row row₁ row₂ ep l r r₁
-      (row_same (λ x. plus (get_or row₁ x 0) (get_or t x 0)) (λ x. plus (get_or row₁ x 0) (found_byte g s x q)) (length row₁) row₂
-      (λ x m. ap (λ (c : List ℕ). plus (get_or row₁ x 0) (get_or c x 0)) (et ∙ ap shard (sym (found_at g.k (shard_in s g.held) q l))))
+      steps_next w (found_byte g) small g.shape.k p q n row row₁ row₂ ep l r r₁
+      (row_same (λ x. plus (get_or row₁ x 0) (get_or t x 0)) (λ x. plus (get_or row₁ x 0) (found_byte g x q)) (length row₁) row₂
+      (λ x m. ap (λ (c : List ℕ). plus (get_or row₁ x 0) (get_or c x 0)) (et ∙ ap shard (sym (found_at g.shape.k (shards_in g) q l))))
       (added_from_0 row₁ t row₂ r₂))
 
-  pub found_done : (p n : ℕ) (row : List ℕ) → p ≤ 0 → n ≡ largest (lengths_of (found_in g s)) + 2
-      → Row (λ x. tail w (found_byte g s x) p g.k) n row →
-      row ≡ parity_shard w (found_in g s)
+  pub found_done : (p n : ℕ) (row : List ℕ) → p ≤ 0 → n ≡ largest (lengths_of (found_in g)) + 2
+      → Row (λ x. tail w (found_byte g x) p g.shape.k) n row →
+      row ≡ parity_shard w (found_in g)
   unfolding parity_shard parity_byte longest
   found_done p n row l e r =
-      row_listed (λ x. total (λ q. mul (weight w q) (found_byte g s x q)) (length (found_in g s))) (largest (lengths_of (found_in g s)) + 2) row
-      (rw (length_found g.k (shard_in s g.held))
-      (steps_done w (found_byte g s) small g.k p n (largest (lengths_of (found_in g s)) + 2) row l e r))
+      row_listed (λ x. total (λ q. mul (weight w q) (found_byte g x q)) (length (found_in g))) (largest (lengths_of (found_in g)) + 2) row
+      (rw (length_found g.shape.k (shards_in g))
+      (steps_done w (found_byte g) small g.shape.k p n (largest (lengths_of (found_in g)) + 2) row l e r))
 
 -- the row that holds a parity shard at its start
 module _ (m w : ℕ) (ds : List (List ℕ)) (ys rest : List ℕ) (e : ys ≡ parity_shard w ds) (em : m ≡ largest (lengths_of ds) + 2) where
@@ -175,18 +174,18 @@ module _ (m w : ℕ) (ds : List (List ℕ)) (ys rest : List ℕ) (e : ys ≡ par
   row_is = take_at ys rest m row_length ∙ e
 
 -- the largest datagram found fits a row
-pub most_small : (g : Group) (s : List ℕ) → lengths_ok g.mtu (lengths_of (found_in g s)) ≡ true → largest (lengths_of (found_in g s)) ≤ g.mtu
-most_small g s e = (add_up_most g.mtu (lengths_of (found_in g s)) e).1
+pub most_small : (g : Group) → lengths_ok g.shape.mtu (lengths_of (found_in g)) ≡ true → largest (lengths_of (found_in g)) ≤ g.shape.mtu
+most_small g e = (add_up_most g.shape.mtu (lengths_of (found_in g)) e).1
 
 -- what is found is listed place by place
-pub listed_found : (g : Group) (s : List ℕ) → lengths_ok g.mtu (lengths_of (found_in g s)) ≡ true
-    → lengths_ok g.mtu (lengths_of (listed (datagram_in g s) g.k)) ≡ true
+pub listed_found : (g : Group) → lengths_ok g.shape.mtu (lengths_of (found_in g)) ≡ true
+    → lengths_ok g.shape.mtu (lengths_of (listed (datagram_in g) g.shape.k)) ≡ true
 unfolding found
-listed_found g s e = e
+listed_found g e = e
 
-pub size_most : (g : Group) (s : List ℕ) (q : ℕ) → q < g.k → length (datagram_in g s q) ≤ largest (lengths_of (found_in g s))
-size_most g s q l = subst (λ (d : List ℕ). length d ≤ largest (lengths_of (found_in g s))) (found_at g.k (shard_in s g.held) q l)
-    (size_le (found_in g s) q)
+pub size_most : (g : Group) (q : ℕ) → q < g.shape.k → length (datagram_in g q) ≤ largest (lengths_of (found_in g))
+size_most g q l = subst (λ (d : List ℕ). length d ≤ largest (lengths_of (found_in g))) (found_at g.shape.k (shards_in g) q l)
+    (size_le (found_in g) q)
 
 -- ---- a frame that passed is in the group where its shard is
 

@@ -6,136 +6,82 @@ ghost use Rattle.frames.specs.Outcomes.{lengths_ok};
 ghost use Rattle.frames.specs.Reading.{frame_ok, place_of, same, holds};
 ghost use Rattle.parity_found.specs.Ready.{Ready, found_in};
 
-use frames::{Frames, lent};
-use parity_found::Group;
+use frames::Frames;
+use parity_found::found::{self, Group};
+use parity_scan::scan;
 
 // Parity shard w of the datagrams found, in a row as long as their longest shard.
-fn parity_row<'a>(w: usize, g: Group, s: &'a [u8], a: &'a [u8], b: &'a [u8], row: &mut [u8])
-    requires { Ready g s.now a.now b.now × (lengths_ok g.mtu (lengths_of (found_in g s.now)) ≡ true)
-        × (length row.old ≡ largest (lengths_of (found_in g s.now)) + 2) }
-    ensures { row.new ≡ parity_shard w (found_in g s.now) }
+fn parity_row<'a>(w: usize, g: &Group<'a>, row: &mut [u8])
+    requires { Ready g.now × (lengths_ok g.now.shape.mtu (lengths_of (found_in g.now)) ≡ true)
+        × (length row.old ≡ largest (lengths_of (found_in g.now)) + 2) }
+    ensures { row.new ≡ parity_shard w (found_in g.now) }
 {
     rows::clear(row);
-    let mut p = g.k;
-    while 0 < p {
-        p -= 1;
-        let t = parity_found::trimmed(g, s, a, b, p);
+    for p in (0..g.shape.k).rev() {
         rows::step(w, row);
-        rows::add(row, 0, t);
+        rows::add(row, 0, found::trimmed(g, p));
     }
-}
-
-// Two slices have the same bytes.
-fn same_bytes(x: &[u8], y: &[u8]) -> bool
-    ensures { result ≡ same x.now y.now }
-{
-    if x.len() != y.len() {
-        return false;
-    }
-    let mut i = 0;
-    while i < x.len() {
-        if x[i] != y[i] {
-            return false;
-        }
-        i += 1;
-    }
-    true
 }
 
 // The data shard of n bytes at `at` is that of place p; the one that is held for p is, as it stands.
-fn data_same<'a>(
-    g: Group,
-    s: &'a [u8],
-    a: &'a [u8],
-    b: &'a [u8],
-    at: usize,
-    n: usize,
-    p: usize,
-) -> bool
-    requires { Ready g s.now a.now b.now × (lengths_ok g.mtu (lengths_of (found_in g s.now)) ≡ true)
-        × (at + n ≤ length s.now) × (p < g.k) × (0 < n) }
-    ensures { result ≡ same (take n (drop at s.now)) (shard_at (found_in g s.now) p) }
+fn data_same<'a>(g: &Group<'a>, at: usize, n: usize, p: usize) -> bool
+    requires { Ready g.now × (lengths_ok g.now.shape.mtu (lengths_of (found_in g.now)) ≡ true)
+        × (at + n ≤ length g.now.frames.bytes.now) × (p < g.now.shape.k) × (0 < n) }
+    ensures { result ≡ same (take n (drop at g.now.frames.bytes.now)) (shard_at (found_in g.now) p) }
 {
-    let h = g.held;
-    let held_at = h.at[p];
-    let held_size = h.size[p];
-    if at == held_at {
-        if n == held_size {
+    if let Some(shard) = g.held[p] {
+        if shard.at == at && shard.size == n {
             return true;
         }
     }
-    same_bytes(&s[at..at + n], parity_found::trimmed(g, s, a, b, p))
+    let bytes = g.frames.bytes;
+    &bytes[at..at + n] == found::trimmed(g, p)
 }
 
 // The parity shard of n bytes at `at` is that of place p.
-fn parity_same<'a>(
-    g: Group,
-    s: &'a [u8],
-    a: &'a [u8],
-    b: &'a [u8],
-    most: usize,
-    at: usize,
-    n: usize,
-    p: usize,
-) -> bool
-    requires { Ready g s.now a.now b.now × (lengths_ok g.mtu (lengths_of (found_in g s.now)) ≡ true)
-        × (at + n ≤ length s.now) × (g.k ≤ p) × (most ≡ largest (lengths_of (found_in g s.now))) }
-    ensures { result ≡ same (take n (drop at s.now)) (shard_at (found_in g s.now) p) }
+fn parity_same<'a>(g: &Group<'a>, most: usize, at: usize, n: usize, p: usize) -> bool
+    requires { Ready g.now × (lengths_ok g.now.shape.mtu (lengths_of (found_in g.now)) ≡ true)
+        × (at + n ≤ length g.now.frames.bytes.now) × (g.now.shape.k ≤ p) × (most ≡ largest (lengths_of (found_in g.now))) }
+    ensures { result ≡ same (take n (drop at g.now.frames.bytes.now)) (shard_at (found_in g.now) p) }
 {
-    let mut row = parity_found::blank();
+    let mut row = found::blank();
     let size = most + 2;
-    parity_row(p - g.k, g, s, a, b, &mut row[..size]);
-    same_bytes(&s[at..at + n], &row[..size])
+    parity_row(p - g.shape.k, g, &mut row[..size]);
+    let bytes = g.frames.bytes;
+    &bytes[at..at + n] == &row[..size]
 }
 
 // The frame of n bytes at `at` has the shard of its place.
-fn shard_same<'a>(
-    g: Group,
-    s: &'a [u8],
-    a: &'a [u8],
-    b: &'a [u8],
-    most: usize,
-    at: usize,
-    n: usize,
-) -> bool
-    requires { Ready g s.now a.now b.now × (lengths_ok g.mtu (lengths_of (found_in g s.now)) ≡ true)
-        × (at + n ≤ length s.now) × (32 ≤ n) × (most ≡ largest (lengths_of (found_in g s.now))) }
-    ensures { result ≡ same (take (n - 6) (drop (at + 6) s.now))
-        (shard_at (found_in g s.now) (place_of g.k (take n (drop at s.now)))) }
+fn shard_same<'a>(g: &Group<'a>, most: usize, at: usize, n: usize) -> bool
+    requires { Ready g.now × (lengths_ok g.now.shape.mtu (lengths_of (found_in g.now)) ≡ true)
+        × (at + n ≤ length g.now.frames.bytes.now) × (32 ≤ n) × (most ≡ largest (lengths_of (found_in g.now))) }
+    ensures { result ≡ same (take (n - 6) (drop (at + 6) g.now.frames.bytes.now))
+        (shard_at (found_in g.now) (place_of g.now.shape.k (take n (drop at g.now.frames.bytes.now)))) }
 {
-    let p = parity_scan::place_at(s, at, n, g.k);
-    if p < g.k {
-        return data_same(g, s, a, b, at + Frames::SHARD, n - Frames::SHARD, p);
+    let bytes = g.frames.bytes;
+    let p = scan::place_in(&bytes[at..at + n], g.shape.k);
+    if p < g.shape.k {
+        data_same(g, at + Frames::SHARD, n - Frames::SHARD, p)
+    } else {
+        parity_same(g, most, at + Frames::SHARD, n - Frames::SHARD, p)
     }
-    parity_same(g, s, a, b, most, at + Frames::SHARD, n - Frames::SHARD, p)
 }
 
 // The group of the datagrams found holds every frame.
-pub fn all_held<'a>(
-    g: Group,
-    s: &'a [u8],
-    lengths: &[u16],
-    a: &'a [u8],
-    b: &'a [u8],
-    group: usize,
-) -> bool
-    requires { Ready g s.now a.now b.now × (lengths_ok g.mtu (lengths_of (found_in g s.now)) ≡ true)
-        × (add_up lengths.now ≤ length s.now) × (every (frame_ok g.k g.mtu group) (parts s.now lengths.now) ≡ true) }
-    ensures { result ≡ every (holds g.k (group * (g.k + 2)) (found_in g s.now))
-        (parts s.now lengths.now) }
+pub fn all_held<'a>(g: &Group<'a>, group: usize) -> bool
+    requires { Ready g.now × (lengths_ok g.now.shape.mtu (lengths_of (found_in g.now)) ≡ true)
+        × (every (frame_ok g.now.shape.k g.now.shape.mtu group) (parts g.now.frames.bytes.now g.now.frames.lengths.now) ≡ true) }
+    ensures { result ≡ every (holds g.now.shape.k (group * (g.now.shape.k + 2)) (found_in g.now))
+        (parts g.now.frames.bytes.now g.now.frames.lengths.now) }
 {
-    let most = parity_found::most_found(g, s, a, b);
+    let most = found::most_found(g);
     let mut at = 0;
-    let mut i = 0;
-    while i < lengths.len() {
-        let n = lent::wide(lengths[i]);
-        let ok = shard_same(g, s, a, b, most, at, n);
-        if ok {
-            at += n;
-            i += 1;
-        } else {
+    for n in g.frames.lengths.iter() {
+        let size = usize::from(*n);
+        if !shard_same(g, most, at, size) {
             return false;
         }
+        at += size;
     }
     true
 }

@@ -129,6 +129,13 @@ same_place (Some q) p l = go (eqb q p) refl
     go true e = e ∙ sym (eq-eqb p q (sym (eqb-true q p e)))
     go false e = e ∙ sym (ne_eqb p q (λ f. eqb-false q p e (sym f)))
 
+-- whether p is the place o
+pub is_place : (o : Option ℕ) (p : ℕ) → p < 12 → true ≡ option_eq eqb o (Some p) → p ≡ place o
+is_place o p l e = eqb-true p (place o) (sym (same_place o p l) ∙ sym e)
+
+pub not_place : (o : Option ℕ) (p : ℕ) → p < 12 → false ≡ option_eq eqb o (Some p) → p ≡ place o → ⊥
+not_place o p l e = eqb-false p (place o) (sym (same_place o p l) ∙ sym e)
+
 false_of : (b : Bool) → true ≡ not b → b ≡ false
 false_of true e = cc
 false_of false e = refl

@@ -52,6 +52,7 @@ pub record Gathered (s ns : List ℕ) (k : ℕ) (h : Held) : Type 0 where
 pub record Found (s ns : List ℕ) (k mtu n : ℕ) (x : Scanned) : Type 0 where
   pub right : every (frame_ok k mtu n) (parts s ns) ≡ true
   pub group : x.group ≡ n
+  pub places : length x.held ≡ 12
   pub held : Gathered s ns k x.held
 
 abbrev pub Scans : List ℕ → List ℕ → ℕ → ℕ → ℕ → Result Scanned Refusal → Type 0

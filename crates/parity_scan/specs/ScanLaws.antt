@@ -235,6 +235,7 @@ seen_all s ns k mtu g h at i seen l =
     record {
       right = seen.checked ∙ ap (every (frame_ok k mtu g)) e;
       group = refl;
+      places = seen.places;
       held = record {
         inside = seen.inside;
         shards = λ p. sym (seen.shards p ∙ ap (λ (fs : List (List ℕ)). nonempty (shard_in s h p) (held_shard k fs p)) e ∙ self

@@ -37,8 +37,8 @@ still b = after b b.link b.table
 abbrev pub NoCommand : Bench → List ℕ → Played → List ℕ → Type 0
 NoCommand b = Says b (ascii "malformed\n")
 
-abbrev pub Ok : Bench → List ℕ → Played → List ℕ → Type 0
-Ok b = Says b (ascii "ok\n")
+abbrev pub SaysOk : Bench → List ℕ → Played → List ℕ → Type 0
+SaysOk b = Says b (ascii "ok\n")
 
 -- ---- the calls
 
@@ -114,7 +114,7 @@ pub record PlaysShow (b : Bench) (s r a text : List ℕ) (x : Played) (text' : L
 pub record Jumps (snd rcv : ℕ) (b : Bench) (text : List ℕ) (x : Played) (text' : List ℕ) : Type 0 where
   pub link : Link
   pub jumped : Jumped b.link snd rcv link
-  pub says : Ok (after b link b.table) text x text'
+  pub says : SaysOk (after b link b.table) text x text'
 
 -- only right after an accepted opening
 pub record PlaysJump (snd rcv : ℕ) (b : Bench) (text : List ℕ) (x : Played) (text' : List ℕ) : Type 0 where
@@ -124,17 +124,17 @@ pub record PlaysJump (snd rcv : ℕ) (b : Bench) (text : List ℕ) (x : Played) 
 pub record PlaysLend (part count : ℕ) (b : Bench) (text : List ℕ) (x : Played) (text' : List ℕ) : Type 0 where
   pub lent : Lent
   pub counts : part ≤ 5 → counts_of lent ≡ set (counts_of b.lent) part count
-  pub says : Ok (record { link = b.link; table = b.table; lent = lent; opened = b.opened; fresh = false }) text x text'
+  pub says : SaysOk (record { link = b.link; table = b.table; lent = lent; opened = b.opened; fresh = false }) text x text'
 
 pub record PlaysPoke (field value : ℕ) (b : Bench) (text : List ℕ) (x : Played) (text' : List ℕ) : Type 0 where
   pub link : Link
   pub poked : IsField field → Poked b.link field value link
-  pub says : Ok (after b link b.table) text x text'
+  pub says : SaysOk (after b link b.table) text x text'
 
 pub record Changes (list index field value : ℕ) (b : Bench) (text : List ℕ) (x : Played) (text' : List ℕ) : Type 0 where
   pub link : Link
   pub changed : HasField list field → HeldChanged b.link list index field value link
-  pub says : Ok (after b link b.table) text x text'
+  pub says : SaysOk (after b link b.table) text x text'
 
 -- only on a segment that is held
 pub record PlaysHold (list index field value : ℕ) (b : Bench) (text : List ℕ) (x : Played) (text' : List ℕ) : Type 0 where
@@ -149,7 +149,7 @@ PlaysTool (command.Lend part count) b = PlaysLend part count b
 PlaysTool (command.Poke field value) b = PlaysPoke field value b
 PlaysTool (command.Hold list index field value) b = PlaysHold list index field value b
 PlaysTool (command.Rec slot number due timeout skips) b =
-    Ok (after b b.link (set b.table slot (record { number = number; due = due; timeout = timeout; skips = skips })))
+    SaysOk (after b b.link (set b.table slot (record { number = number; due = due; timeout = timeout; skips = skips })))
 PlaysTool (command.Open conv mtu mode interval threshold stream congestion) b = NoCommand b
 PlaysTool (command.Send n) b = NoCommand b
 PlaysTool (command.Input n) b = NoCommand b

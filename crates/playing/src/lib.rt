@@ -5,7 +5,7 @@ ghost use Rattle.std.specs.Prelude.{◌≡◌, min, take, set, ◌++◌, Ok};
 ghost use Rattle.notation.specs.Ascii.{ascii};
 ghost use Rattle.transcript.specs.Lines.{bytes_line, refusal_line, answer_line, count_line, datagram_lines, state_line, held_line};
 ghost use Rattle.bench_calls.specs.BenchPromises.{after};
-ghost use Rattle.playing.specs.Plays.{PlaysUpdate, PlaysCheck, Says, still, NoCommand, Ok, PlaysOpen, PlaysSend};
+ghost use Rattle.playing.specs.Plays.{PlaysUpdate, PlaysCheck, Says, still, NoCommand, SaysOk, PlaysOpen, PlaysSend};
 ghost use Rattle.playing.specs.Plays.{PlaysInput, PlaysFlush, PlaysRead, PlaysSize, PlaysShow, PlaysJump, PlaysLend};
 ghost use Rattle.playing.specs.Plays.{PlaysPoke, PlaysHold, PlaysTool, PlaysUnopened, PlaysOnLink, settings_of, Plays};
 ghost use Rattle.playing.specs.Plays.{PlaysLine};
@@ -184,7 +184,7 @@ fn flush(
 
 // An update that did not flush.
 fn waited(bench: Bench, text: &mut [u8]) -> Played
-    ensures { Ok bench text.old result text.new }
+    ensures { SaysOk bench text.old result text.new }
 {
     let len = transcript::answer(text, 0, Ok(()));
     Played { bench, len }
@@ -306,7 +306,7 @@ fn show(
 }
 
 fn ok(bench: Bench, text: &mut [u8]) -> Played
-    ensures { Ok (still bench) text.old result text.new }
+    ensures { SaysOk (still bench) text.old result text.new }
 {
     let len = transcript::answer(text, 0, Ok(()));
     unchanged(bench, len)
@@ -368,7 +368,7 @@ fn hold(bench: Bench, list: u32, index: u32, field: u32, value: u32, text: &mut 
 }
 
 fn rec(mut bench: Bench, slot: u32, record: Record, text: &mut [u8]) -> Played
-    ensures { Ok (after bench bench.link (set bench.table slot «record»)) text.old result text.new }
+    ensures { SaysOk (after bench bench.link (set bench.table slot «record»)) text.old result text.new }
 {
     bench::replace(&mut bench.table, slot as usize, record);
     ok(bench, text)

@@ -3,7 +3,8 @@
 
 pub mod times;
 
-// The schedule: the next flush time, and whether an update has been made.
+// The schedule: the next flush time, and whether an update has been made. No Option: the state has a next time before the first update
+// too, which `schedule_of` reads from the block, and the laws of schedules speak of it.
 #[derive(Clone, Copy)]
 pub struct Schedule {
     pub next: u32,

@@ -204,12 +204,12 @@ module _ (s : Settings) (f : Flight) (a : Arrival) (k : Clock) (x : Arrays) (rs 
         pool = h.pool;
       }
 
-  -- what enqueueing leaves, as the block
+  -- what enqueueing leaves, as the block and the pool that come back
   pub sent : {n : ℕ} {marks : List ℕ} (p : Established n marks) (stream : Bool) (m : ℕ) → stream ≡ is_stream s → m ≡ mss s
-      → (pool message : List ℕ) (b : Answer) (count : ℕ) (q pool' : List ℕ)
+      → (pool message : List ℕ) (b : Answer) (count : ℕ) (q pool' : List ℕ) {pool'' : List ℕ}
       → ((y : State) → PartsOf y stream m x.queued f.queued f.outstanding marks
-      → Follows (sending y pool message) x.queued f.queued pool b count q pool')
-      → SendCore (sending (state_of link rs acks) pool message) link rs acks pool b (link_of s (with_count f count) a k (with_words x q)) pool'
-  sent p stream m mode size pool message b count q pool' h =
-      put_back pool message pool' q b count (sending (state_of link rs acks) pool message) refl (h (state_of link rs acks) (parts p mode size))
-      p.counts_fit_lem
+      → Follows (sending y pool message) x.queued f.queued pool b count q pool') → pool'' ≡ pool'
+      → SendCore (sending (state_of link rs acks) pool message) link rs acks pool b (link_of s (with_count f count) a k (with_words x q)) pool''
+  sent p stream m mode size pool message b count q pool' h e =
+      rw e (put_back pool message pool' q b count (sending (state_of link rs acks) pool message) refl (h (state_of link rs acks) (parts p mode size))
+      p.counts_fit_lem)

@@ -10,6 +10,7 @@ ghost use Rattle.send_core.specs.Sending.{Sendable};
 
 use answers::Answer;
 use control::Link;
+use enqueue::Outgoing;
 
 // Sending: 10, then 11.
 pub fn send(link: &mut Link, marks: &[u8; 128], pool: &mut [u8], message: &[u8]) -> Answer<()>
@@ -18,10 +19,16 @@ pub fn send(link: &mut Link, marks: &[u8; 128], pool: &mut [u8], message: &[u8])
         → SendCore (sending (state_of link.old records acks) pool.old message.now) link.old records acks pool.old
         result link.new pool.new }
 {
-    let stream = link.settings.stream == 1;
-    let mss = link.settings.mss();
-    let n = link.flight.queued;
-    let m = link.flight.outstanding;
-    link.flight.queued = enqueue::enqueue(stream, mss, &mut link.queued, n, m, marks, pool, message)?;
-    Ok(())
+    let mut outgoing = Outgoing {
+        stream: link.settings.stream == 1,
+        mss: link.settings.mss(),
+        queued: &mut link.queued,
+        count: link.flight.queued,
+        marks,
+        pool,
+    };
+    let answer = outgoing.enqueue(link.flight.outstanding, message);
+    let count = outgoing.count;
+    link.flight.queued = count;
+    answer
 }

@@ -32,11 +32,11 @@ const FIRST_MTU_MOST: u16 = 512;
 // Why a file is not read, or not written.
 #[derive(Clone, Copy, Debug, PartialEq, Eq)]
 pub enum FileRefusal {
-    ShortPart,
-    SettingOutOfRange,
-    NotSettings,
-    UnknownVersion,
-    NeedlessVersion,
+    ShortPart = 7,
+    SettingOutOfRange = 12,
+    NotSettings = 15,
+    UnknownVersion = 16,
+    NeedlessVersion = 20,
 }
 
 impl FileRefusal {
@@ -44,13 +44,7 @@ impl FileRefusal {
     pub fn number(self) -> u8
         ensures { result ≡ number_of self }
     {
-        match self {
-            FileRefusal::ShortPart => 7,
-            FileRefusal::SettingOutOfRange => 12,
-            FileRefusal::NotSettings => 15,
-            FileRefusal::UnknownVersion => 16,
-            FileRefusal::NeedlessVersion => 20,
-        }
+        self as u8
     }
 }
 

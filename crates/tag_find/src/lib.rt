@@ -1,5 +1,5 @@
 // A name is looked for in two tables of tags, the station's own and the line's defaults: find, ask and found. Refusals in the order
-// 7, 24, 17; asking shows an empty part where it is refused.
+// 7, 24, 17; asking shows an empty part where it is refused. Tables and name come one by one, as the C interface lends them.
 #![tactic(auto)]
 
 ghost use Rattle.std.specs.Prelude.{◌≡◌, ◌+◌, ◌≤◌, ◌<◌, length, IfSome};
@@ -95,6 +95,7 @@ pub fn ask<'a>(own: &'a [u8], defaults: &'a [u8], name: &[u8]) -> &'a [u8]
 }
 
 // The same for each choice, with a lifetime of its own: the value where the own table has it, else an empty part of that table.
+// Two functions, as docs/TAGS.md names them: each result lives as long as its own table.
 pub fn ask_own<'a>(own: &'a [u8], defaults: &[u8], name: &[u8]) -> &'a [u8]
     ensures { ShowsOwn (find_in own.now defaults.now name.now) own.entry result }
 {

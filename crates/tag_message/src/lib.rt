@@ -1,4 +1,5 @@
-// A tag message: a name length 1 to 32, the name in bytes 33 to 126, a value length 0 to 64, the value, and then the end.
+// A tag message: a name length 1 to 32, the name in bytes 33 to 126, a value length 0 to 64, the value, and then the end. A name and a
+// value come as two slices, as the C interface lends them.
 #![tactic(auto)]
 
 ghost use Rattle.std.specs.Prelude.{◌≡◌, ◌+◌, ◌≤◌, ◌<◌, length, slice_index};
@@ -18,11 +19,11 @@ const ROOM: usize = 98;
 // Why a call on a tag message or on a table of tags is refused.
 #[derive(Clone, Copy, Debug, PartialEq, Eq)]
 pub enum TagRefusal {
-    OtherSize,
-    NotATag,
-    Full,
-    Absent,
-    NotATable,
+    OtherSize = 7,
+    NotATag = 17,
+    Full = 18,
+    Absent = 19,
+    NotATable = 24,
 }
 
 // The lengths of the name and of the value in a message.
@@ -37,13 +38,7 @@ impl TagRefusal {
     pub fn number(self) -> u8
         ensures { result ≡ number_of self }
     {
-        match self {
-            TagRefusal::OtherSize => 7,
-            TagRefusal::NotATag => 17,
-            TagRefusal::Full => 18,
-            TagRefusal::Absent => 19,
-            TagRefusal::NotATable => 24,
-        }
+        self as u8
     }
 }
 

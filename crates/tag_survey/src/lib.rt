@@ -1,4 +1,4 @@
-// One pass over a table of tags: whether it is in its rules, where a name is, and which entry is the lowest free one.
+// A table of tags is looked through: whether it is in its rules, where a name is, and which entry is the lowest free one.
 #![tactic(auto)]
 
 ghost use Rattle.std.specs.Prelude.{◌≡◌, List, [], ◌∷◌, ◌++◌, length, position};
@@ -8,13 +8,13 @@ ghost use Rattle.tag_entry.specs.Entries.{is_free, is_named};
 ghost use Rattle.tag_survey.specs.Tables.{table_size, entries_in, is_fresh, place_of};
 ghost use Rattle.tag_survey.specs.Surveys.{Met, surveyed};
 
-use tag_entry::{Entry, fingerprint, is_entry, is_named, name_of};
+use tag_entry::{ENTRY, Entry, fingerprint, is_entry, is_named, name_of};
 use tag_message::TagRefusal;
 
 // How many entries a table has, and its bytes.
 pub const ENTRIES: usize = 64;
 
-pub const SIZE: usize = 6272;
+pub const SIZE: usize = ENTRIES * ENTRY;
 
 // The first entry with a name, and the lowest free one.
 #[derive(Clone, Copy, Debug, PartialEq, Eq)]

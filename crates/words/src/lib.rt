@@ -55,7 +55,8 @@ pub fn insert(
     word: u32,
     number: u32,
 ) -> usize
-    requires { (n ≤ 128) × (length (insert (waiting_offset base) (waiting_at word number) (waiting_in words.old numbers.old n)) ≤ 128) }
+    requires { (n ≤ 128)
+        × (length (insert (waiting_offset base) (waiting_at word number) (waiting_in words.old numbers.old n)) ≤ 128) }
     ensures { Sides waiting_at 128 words.new numbers.new result
         (insert (waiting_offset base) (waiting_at word number) (waiting_in words.old numbers.old n)) }
 {

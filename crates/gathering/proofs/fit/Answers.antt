@@ -16,7 +16,8 @@ loop-word-preserved c =
     let i = c.loop-word.word-index in
     let room : length ys < 2 ^ 64 = omega arith in
     let counted = found_count (take send_slots ys) c.args.words.now f.outstanding c.min.result c.min.ensures in
-    let at = found_at (take send_slots ys) c.args.words.now f.outstanding c.min.result c.min.ensures i c.read-found.result c.loop-word-test.true
+    let at = found_at (take send_slots ys) c.args.words.now f.outstanding c.min.result c.min.ensures i c.read-found.result
+    c.loop-word-test.true
     (reached ys _ c.reach.result _ room c.reach.ensures c.read-found.ensures) in
     least_next c.args.settings.mode f.una f.next (gathered (take send_slots ys) (slots_in c.args.words.now f.outstanding)) i _ _ blank
     (omega arith) c.loop-word.invariant _ (c.in-Some.ensures ∙ ap (least_after c.args.settings.mode f.una f.next c.loop-word.least) at)

@@ -1,173 +1,73 @@
 -- `parity_reader::read_held` meets its contract: its tests in turn.
-use mathlib.Core.Path.{sym, ◌∙◌}
-use Prim.Native.Nat.{◌+◌, ◌*◌, ◌≤◌}
-use native.Mathlib.Omega.{arith}
-use lib.ListN.{length}
-use lib.Seq.{length-take-le}
-use Rattle.frames.specs.Lists.{parts, lengths_of, every}
-use Rattle.frames.specs.Outcomes.{lengths_ok}
-use Rattle.frames.specs.Reading.{found, holds, read_group}
-use Rattle.frames.specs.declared.Refusal.TheVariants.{NotAGroup, TooFewFrames}
-use Rattle.frames.specs.OutcomeLaws.{and_left, refusing, writing}
-use Rattle.parity_scan.specs.Held.{shard_in}
+use Rattle.std.proofs.Common.{◌+◌, ◌≤◌, refl, sym, ◌∙◌, length, length-take-le, arith}
+use Rattle.frames.specs.OutcomeLaws.{refusing, writing}
+use Rattle.parity_restore.specs.RestoreLaws.{place_lost}
 use Rattle.parity_found.specs.FoundLaws.{length_found}
 use Rattle.parity_reader.specs.CallLaws.{within, ready, after_22, after_21, after_all}
+use Rattle.parity_reader.proofs.read_held.Goals.{then-not-lens_ok-via-then-not-lens_ok, then-not-lens_ok-via-else-not-lens_ok+then-not-all_held}
 use Rattle.parity_reader.proofs.read_held.Goals as goal
 
 pub returns-then-count_held-k : goal.returns-then-count_held-k
-returns-then-count_held-k c = refusing (read_group c.args.k
-    c.args.mtu c.args.group
-    (parts c.args.s.now
-    c.args.lengths.now)) TooFewFrames
-    c.args.out.now
-    c.args.out_lengths.now
-    (after_22 c.args.k c.args.mtu
-    c.args.group c.args.s.now
-    c.args.lengths.now c.args.h
-    c.requires.3 c.requires.4
-    c.count_held.result c.count_held.ensures c.if-count_held-k.true)
+returns-then-count_held-k c =
+    let f = c.requires.0 in
+    refusing _ _ _ _ (after_22 _ _ _ _ _ _ f.right f.held _ c.count_held.ensures c.if-count_held-k.true)
 
 pub restore-requires : goal.restore-requires
 restore-requires c =
-    let la : c.args.mtu
-    + 2 ≤ length c.blank-a.result =
-    omega (
-      arith,
-      c.blank-a.ensures,
-      c.requires.1,
-    ) in
-    let lb : c.args.mtu
-    + 2 ≤ length c.blank-b.result =
-    omega (
-      arith,
-      c.blank-b.ensures,
-      c.requires.1,
-    ) in (
-      c.requires.0,
-      c.requires.4.inside,
-      within c.args.k
-          c.args.mtu
-          c.args.group
-          c.args.s.now
-          c.args.lengths.now
-          c.args.h
-          c.requires.3
-          c.requires.4 _
-          (length-take-le (c.args.mtu + 2)
-          c.blank-a.result la),
-      length-take-le (c.args.mtu + 2)
-          c.blank-b.result lb ∙ sym
-          (length-take-le (c.args.mtu + 2)
-          c.blank-a.result la),
+    let f = c.requires.0 in
+    let m = c.args.shape.small in
+    let la : c.args.shape.mtu + 2 ≤ length c.blank-a.result = omega (arith, c.blank-a.ensures, m) in
+    let lb : c.args.shape.mtu + 2 ≤ length c.blank-b.result = omega (arith, c.blank-b.ensures, m) in
+    let za = length-take-le (c.args.shape.mtu + 2) c.blank-a.result la in
+    let zb = length-take-le (c.args.shape.mtu + 2) c.blank-b.result lb in (
+      c.args.shape.few,
+      f.held.inside,
+      within _ _ _ _ _ _ f.right f.held _ za,
+      zb ∙ sym za,
       c.other_lost-first.ensures,
       c.other_lost-second.ensures,
     )
 
-pub verified-ok-requires : goal.verified-ok-requires
-verified-ok-requires c =
-    let la : c.args.mtu + 2 ≤ length c.blank-a.result =
-    omega (
-      arith,
-      c.blank-a.ensures,
-      c.requires.1,
-    ) in (
-      ready c.args.k c.args.mtu
-          c.args.group c.args.s.now c.args.lengths.now
-          c.args.h c.requires.3 c.requires.4
-          c.count_held.result
-          c.other_lost-first.result
-          c.other_lost-second.result _ _ _ _ _
-          (λ i. omega (arith, c.type_inv.s i))
-          c.requires.0 c.requires.1 c.count_held.ensures c.if-count_held-k.false
-          c.other_lost-first.ensures
-          c.other_lost-second.ensures
-          (length-take-le (c.args.mtu + 2) c.blank-a.result la)
-          c.restore.ensures,
-      c.requires.2,
-      c.requires.3,
+pub lens_ok-requires : goal.lens_ok-requires
+lens_ok-requires c =
+    let la : c.args.shape.mtu + 2 ≤ length c.blank-a.result = omega (arith, c.blank-a.ensures, c.args.shape.small) in
+    ready _ c.args.scanned.group c.count_held.result _ _ _ _ _ c.requires.0 c.count_held.ensures c.if-count_held-k.false
+    (place_lost _ _ c.other_lost-first.ensures) (place_lost _ _ c.other_lost-second.ensures)
+    (length-take-le (c.args.shape.mtu + 2) c.blank-a.result la) c.restore.ensures refl refl
+
+pub all_held-requires : goal.all_held-requires
+all_held-requires c =
+    let la : c.args.shape.mtu + 2 ≤ length c.blank-a.result = omega (arith, c.blank-a.ensures, c.args.shape.small) in (
+      ready _ c.args.scanned.group c.count_held.result _ _ _ _ _ c.requires.0 c.count_held.ensures c.if-count_held-k.false
+          (place_lost _ _ c.other_lost-first.ensures) (place_lost _ _ c.other_lost-second.ensures)
+          (length-take-le (c.args.shape.mtu + 2) c.blank-a.result la) c.restore.ensures refl refl,
+      sym c.if-not-lens_ok.ensures,
+      c.requires.0.right,
     )
 
 pub put_found-requires : goal.put_found-requires
 put_found-requires c =
-    let la : c.args.mtu
-    + 2 ≤ length c.blank-a.result = omega (
-      arith,
-      c.blank-a.ensures,
+    let la : c.args.shape.mtu + 2 ≤ length c.blank-a.result = omega (arith, c.blank-a.ensures, c.args.shape.small) in (
+      ready _ c.args.scanned.group c.count_held.result _ _ _ _ _ c.requires.0 c.count_held.ensures c.if-count_held-k.false
+          (place_lost _ _ c.other_lost-first.ensures) (place_lost _ _ c.other_lost-second.ensures)
+          (length-take-le (c.args.shape.mtu + 2) c.blank-a.result la) c.restore.ensures refl refl,
+      sym c.if-not-lens_ok.ensures,
       c.requires.1,
-    ) in (
-      ready c.args.k
-          c.args.mtu
-          c.args.group
-          c.args.s.now
-          c.args.lengths.now
-          c.args.h
-          c.requires.3
-          c.requires.4
-          c.count_held.result c.other_lost-first.result
-          c.other_lost-second.result _ _ _ _ _ (λ i. omega (arith, c.type_inv.s i))
-          c.requires.0
-          c.requires.1
-          c.count_held.ensures c.if-count_held-k.false
-          c.other_lost-first.ensures c.other_lost-second.ensures (length-take-le
-          (c.args.mtu + 2)
-          c.blank-a.result
-          la) c.restore.ensures,
-      and_left (lengths_ok c.args.mtu
-          (lengths_of (found c.args.k
-          (shard_in c.args.s.now
-          c.args.h))))
-          (every (holds c.args.k
-          (c.args.group *
-          (c.args.k + 2))
-          (found c.args.k
-          (shard_in c.args.s.now
-          c.args.h)))
-          (parts c.args.s.now
-          c.args.lengths.now))
-          (sym c.verified-ok.ensures ∙ c.if-ok.true),
-      c.requires.5,
-      c.requires.6,
+      c.requires.2,
     )
 
-pub returns-then-ok : goal.returns-then-ok
-returns-then-ok c =
-    writing (read_group c.args.k
-    c.args.mtu
-    c.args.group
-    (parts c.args.s.now
-    c.args.lengths.now))
-    (found c.args.k
-    (shard_in c.args.s.now
-    c.args.h))
-    c.args.k
-    c.args.out.now
-    c.args.out_lengths.now _ _
-    (after_all c.args.k
-    c.args.mtu
-    c.args.group
-    c.args.s.now
-    c.args.lengths.now
-    c.args.h
-    c.requires.3
-    c.requires.4
-    c.count_held.result
-    c.count_held.ensures
-    c.if-count_held-k.false
-    (sym c.verified-ok.ensures ∙ c.if-ok.true))
-    (sym (length_found c.args.k
-    (shard_in c.args.s.now
-    c.args.h)))
-    c.put_found.ensures.bytes c.put_found.ensures.lengths
+pub returns-then-not-lens_ok : goal.returns-then-not-lens_ok
+returns-then-not-lens_ok c =
+    let f = c.requires.0 in
+    refusing _ _ _ _ (after_21 _ _ _ _ _ _ f.right f.held _ c.count_held.ensures c.if-count_held-k.false
+    (elim c.then-not-lens_ok.branch [
+      | then-not-lens_ok-via-then-not-lens_ok w ↦ rw (← w.if-not-lens_ok.ensures) refl
+      | then-not-lens_ok-via-else-not-lens_ok+then-not-all_held w ↦ rw (← w.if-not-lens_ok.ensures, ← w.if-not-all_held.ensures) refl
+    ]))
 
-pub returns-else-ok : goal.returns-else-ok
-returns-else-ok c =
-    refusing (read_group c.args.k
-    c.args.mtu c.args.group
-    (parts c.args.s.now
-    c.args.lengths.now)) NotAGroup
-    c.args.out.now c.args.out_lengths.now
-    (after_21 c.args.k
-    c.args.mtu c.args.group
-    c.args.s.now c.args.lengths.now
-    c.args.h c.requires.3
-    c.requires.4 c.count_held.result c.count_held.ensures c.if-count_held-k.false (sym c.verified-ok.ensures ∙ c.if-ok.false))
+pub returns : goal.returns
+returns c =
+    let f = c.requires.0 in
+    writing _ _ _ _ _ _ _ (after_all _ _ _ _ _ _ f.right f.held _ c.count_held.ensures c.if-count_held-k.false
+    (rw (← c.if-not-lens_ok.ensures, ← c.if-not-all_held.ensures) refl))
+    (sym (length_found _ _)) c.put_found.ensures.bytes c.put_found.ensures.lengths

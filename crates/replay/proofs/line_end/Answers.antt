@@ -1,22 +1,14 @@
--- `replay::line_end` meets its contract: the line from `from` on is what was passed, and the line from here on.
-use native.Mathlib.Omega.{arith}
-use Rattle.script.specs.CommandLaws.{up_to_next, up_to_here, up_to_end}
+-- `replay::line_end` meets its contract: the first line of what is left.
+use Rattle.std.proofs.Common.{◌≡◌, ◌∙◌, ap, ℕ, ◌+◌, ◌-◌, length, take, drop, take_all, length-drop, arith}
+use Rattle.script.specs.Commands.{first_line}
+use Rattle.script.specs.CommandLaws.{up_to_short}
 use Rattle.replay.proofs.line_end.Goals as goal
-
-pub returns-then-script-i-eq-NEWLINE : goal.returns-then-script-i-eq-NEWLINE
-returns-then-script-i-eq-NEWLINE c =
-    let i = c.loop-i.i in
-    let script = c.args.script.now in
-    (omega (arith, up_to_here 10 script i (omega arith) c.if-script-i-eq-NEWLINE.true), omega arith, omega arith)
-
-pub loop-i-preserved : goal.loop-i-preserved
-loop-i-preserved c =
-    let i = c.loop-i.i in
-    let script = c.args.script.now in
-    (omega arith, omega arith, omega (arith, up_to_next 10 script i (omega arith) c.if-script-i-eq-NEWLINE.false))
 
 pub returns : goal.returns
 returns c =
-    let i = c.loop-i.i in
-    let script = c.args.script.now in
-    (omega (arith, up_to_end 10 script i (omega arith)), omega arith, omega arith)
+    let s = c.args.script.now in
+    let from = c.args.from in
+    let rest : take (length s - from) (drop from s) ≡ drop from s =
+    take_all (length s - from) (drop from s) (omega (arith, length-drop from s)) in
+    let line = ap length (c.split_before.ensures.0 ∙ ap first_line rest) in
+    (ap (λ (k : ℕ). from + k) line, omega arith, omega (arith, line, up_to_short 10 (drop from s), length-drop from s))

@@ -17,7 +17,8 @@ returns-in_default c =
     let passed = least_none s.settings.mode s.flight.una s.flight.next rs _ c.loop-record.least _ blank c.loop-record-test.true
     c.loop-record.invariant c.in_default.ensures in
     ap (flown_by s.flight.una s.flight.next) (sym passed) ∙ flown_fits s.settings.mode s.flight.una s.flight.next rs
-    ∙ ap (flight_fits s.settings.mode s.flight.una s.flight.next) (looked_all s.records.now s.flight.outstanding _ c.told-records c.min.ensures)
+    ∙ ap (flight_fits s.settings.mode s.flight.una s.flight.next)
+    (looked_all s.records.now s.flight.outstanding _ c.told-records c.min.ensures)
 
 pub returns : goal.returns
 returns c =
@@ -26,4 +27,5 @@ returns c =
     let passed = least_end s.settings.mode s.flight.una s.flight.next rs _ c.loop-record.least _ c.loop-record-test.false
     c.loop-record.invariant in
     c.flown.ensures ∙ ap (flown_by s.flight.una s.flight.next) (sym passed) ∙ flown_fits s.settings.mode s.flight.una s.flight.next rs
-    ∙ ap (flight_fits s.settings.mode s.flight.una s.flight.next) (looked_all s.records.now s.flight.outstanding _ c.told-records c.min.ensures)
+    ∙ ap (flight_fits s.settings.mode s.flight.una s.flight.next)
+    (looked_all s.records.now s.flight.outstanding _ c.told-records c.min.ensures)

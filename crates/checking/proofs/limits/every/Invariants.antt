@@ -5,4 +5,5 @@ use Rattle.checking.proofs.limits.every.Given as goal
 
 abbrev pub invariant-loop-x : goal.invariant-loop-x
 invariant-loop-x g l =
-    (t : g.row.T.Denot → Bool) → ((x : _) (b : Bool) → goal.F-post g l.fn.test x b → b ≡ t x) → all t l.list ≡ (l.fit && all t (drop l.x-index l.list))
+    (t : g.row.T.Denot → Bool) → ((x : _) (b : Bool) → goal.F-post g l.fn.test x b → b ≡ t x)
+    → all t l.list ≡ (l.fit && all t (drop l.x-index l.list))

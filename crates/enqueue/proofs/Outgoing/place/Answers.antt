@@ -5,14 +5,14 @@ use native.Mathlib.Omega.{arith}
 use Rattle.enqueue.proofs.Payloads.{stored_within}
 use Rattle.enqueue.proofs.Places.{placing_start, next_low, placing_next, placing_done, placing_as}
 use borrow.Author.Rules.{rules}
-use Rattle.enqueue.proofs.place.Goals as goal
+use Rattle.enqueue.proofs.Outgoing.place.Goals as goal
 
 pub loop-i-init : goal.loop-i-init
 loop-i-init c =
     let p = c.requires.1 in
     record {
+      same = record { stream = refl; mss = refl; marks = refl; queued = refl; pool = refl; pool_length = refl };
       within = c.requires.0;
-      whole = refl;
       placeable = p;
       placing = λ h. placing_as (omega arith) (omega arith) (placing_start h (omega (arith, p.room)) p.whole (omega (arith, p.room)));
     }
@@ -27,7 +27,7 @@ pub store-len-requires : goal.store-len-requires
 store-len-requires c =
     let v = c.loop-i.invariant in
     let low = next_low (v.placing v.placeable.marked) (omega arith) in
-    (v.within, omega (arith, low, c.free_from-slot.ensures), omega (arith, v.whole, v.placeable.slots))
+    (v.within, omega (arith, low, c.free_from-slot.ensures), omega (arith, v.same.pool_length, v.placeable.slots))
 
 -- the payload stored is short, and its slot a byte
 pub overflow_cast-held : goal.overflow_cast-held
@@ -45,14 +45,21 @@ loop-i-preserved c =
     let some : 0 < c.args.count - c.loop-i.i = omega arith in
     let left : c.args.count - 1 - c.loop-i.i ≡ c.args.count - c.loop-i.i - 1 = omega arith in
     record {
+      same = record {
+        stream = v.same.stream;
+        mss = v.same.mss;
+        marks = v.same.marks;
+        queued = v.same.queued;
+        pool = v.same.pool;
+        pool_length = search rules;
+      };
       within = stored_within s v.within;
-      whole = search rules;
       placeable = v.placeable;
       placing = λ h. placing_as (omega arith) (omega arith) (placing_next c.word.result (v.placing h) some c.free_from-slot.ensures
           (omega (arith, v.placeable.room)) s (c.word.ensures ∙ rw (c.fragment_of.ensures, left)));
     }
 
-pub returns : goal.returns
-returns c h =
+pub returns-clause-places : goal.returns-clause-places
+returns-clause-places c h =
     let all : c.loop-i.i ≡ c.args.count = omega arith in
     placing_done (placing_as (omega arith) refl (c.loop-i.invariant.placing h)) _ _ refl (omega arith)
