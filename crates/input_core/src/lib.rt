@@ -3,7 +3,7 @@
 
 ghost use Rattle.std.specs.Prelude.{◌≡◌, length};
 ghost use Rattle.session.specs.Input.{input};
-ghost use Rattle.control.specs.Views.{state_of};
+ghost use Rattle.control.specs.Views.{arrays_of, Whole, state_of};
 ghost use Rattle.protocol.specs.Ranges.{mss};
 ghost use Rattle.congestion.specs.Congestions.{Growable};
 ghost use Rattle.input_core.specs.Taking.{Hearable, grown_from, Takes};
@@ -39,7 +39,7 @@ pub fn input(
     requires { Hearable link.old records.old marks.now acks.old pool.old }
     ensures { Takes (input (state_of link.old records.old acks.old) pool.old datagram.now) link.old pool.old acks.old
         result link.new records.new pool.new acks.new
-        × (length records.new ≡ 32) }
+        × Whole (arrays_of link.new) × (length records.new ≡ 32) }
 {
     let settings = link.settings;
     let before = link.flight;

@@ -12,6 +12,7 @@ returns-in_err-check c =
     let p = err_from_is_err_and c.from_residual.result c.from_residual.ensures.1 in (
       rw (p.1, p.2) (not_taken a.link.now a.records.now a.records.now a.acks.now a.pool.now a.datagram.now
           c.mss.result c.mss.ensures c.in_err-check.field-0.0 c.in_err-check.ensures),
+      search rules,
       c.requires.whole,
     )
 
@@ -47,11 +48,20 @@ returns c =
     let a = c.args in
     let whole : Whole (arrays_of a.link.now) = search rules in
     let ok = established a.link.now a.records.now a.marks.now a.acks.now a.pool.now c.requires whole in
-    let half = c.hear.new.half in (
+    let start = begun a.link.now a.datagram.now c.mss.result c.mss.ensures _ c.in_ok-check.ensures in
+    let half = c.hear.new.half in
+    let heard = c.hear-sent.ensures.0 start.all start.parsed in (
       takes_all a.link.now a.records.now a.pool.now a.acks.now a.datagram.now c.hear-sent.result half.arrival
           c.hear-sent.new.outstanding c.hear-sent.new.transmissions half.ready.now half.waiting.now half.numbers.now
-          c.hear-sent.new.records c.hear.new.pool c.hear.new.acks _
-          (begun a.link.now a.datagram.now c.mss.result c.mss.ensures _ c.in_ok-check.ensures)
+          c.hear-sent.new.records c.hear.new.pool c.hear.new.acks _ start
           c.hear-sent.ensures.0 c.hear.ensures.hears ok.counts_fit_lem c.hear.auto.acks c.grown-link.result c.grown-link.ensures,
+      record {
+        whole_queued = whole.whole_queued;
+        whole_outstanding = heard.whole;
+        whole_transmissions = heard.wholes;
+        whole_ready = c.hear.ensures.whole.whole_ready;
+        whole_waiting = c.hear.ensures.whole.whole_waiting;
+        whole_numbers = c.hear.ensures.whole.whole_numbers;
+      },
       c.hear-sent.ensures.1,
     )
