@@ -1,2 +1,2 @@
-pub mod Takes
 pub mod Checks
+pub mod Takes

@@ -8,10 +8,9 @@ use Prim.Native.Nat.{ℕ}
 use borrow.Author.Tests.{le-leb}
 use lib.ListN.{length}
 use Rattle.protocol.specs.Ranges.{mss}
-use Rattle.protocol.specs.declared.Settings.{Settings}
 use Rattle.protocol.specs.declared.Refusal.{Refusal}
 use Rattle.timing.specs.declared.Record.{Record}
-use Rattle.datagram.specs.Datagrams.{Checked, parse, counted}
+use Rattle.datagram.specs.Datagrams.{parse, counted}
 use Rattle.datagram.specs.StepLaws.{Begun, accepted, was_refused}
 use Rattle.session.specs.State.{Sending, Outcome, refused, done}
 use Rattle.session.specs.Input.{Receiver, Took, all_by_receiving, applied, input}
@@ -20,35 +19,32 @@ use Rattle.control.specs.ViewLaws.{counts}
 use Rattle.control.specs.declared.Link.{Link}
 use Rattle.control.specs.declared.Flight.{Flight}
 use Rattle.control.specs.declared.Arrival.{Arrival}
-use Rattle.promises.specs.Cores.{InputCore}
 use Rattle.acknowledge.specs.Flights as sending
 use Rattle.receive.specs.Halves as receiving
 use Rattle.receive.proofs.Starts.{receiver_view}
-use Rattle.input_core.specs.Taking.{flight_of, receiver_in, grown_from}
-use Rattle.std.specs.Prelude.{Err, Ok}
+use Rattle.input_core.specs.Taking.{grown_from, Takes}
+use Rattle.input_core.proofs.Checks.{flight_of, receiver_in}
 
--- ---- refused
+-- ---- refused, by a check before the call or by one of the datagram
 
-pub takes_nothing : (o : Outcome Took) (l : Link) (pool acks words : List ℕ) (records : List Record) (q : Refusal) → o ≡ refused q
-    → InputCore o l pool acks (Err q) l (record { words = words; changed = 0; records = records }) pool acks
-takes_nothing o l pool acks words records q e =
-    rw e (record { answer = refl; link = refl; puts = refl; pool_same = refl; acks_same = refl })
+pub takes_nothing : (o : Outcome Took) (l : Link) (pool acks : List ℕ) (records : List Record) (q : Refusal) → o ≡ refused q
+    → Takes o l pool acks (Err q) l records pool acks
+takes_nothing o l pool acks records q e = rw e (record { answer = refl; link = refl; puts = refl; pool_same = refl; acks_same = refl })
 
--- v is what the check of the datagram s answers, m being the mss of the settings c
-module _ (c : Settings) (m : ℕ) (s : List ℕ) (v : Checked) (e : v ≡ counted 0 (parse c.conv m s)) (q : m ≡ mss c) where
-  verdict : v ≡ counted 0 (parse c.conv (mss c) s)
-  verdict = rw q at e
-
-  pub begun : (n : ℕ) → v ≡ Ok n → Begun c.conv (mss c) s n
-  begun n r = accepted c.conv (mss c) s n (sym verdict ∙ r)
-
-  -- refused, over a block with these settings
-  pub refused_over : (l : Link) (records : List Record) (acks pool : List ℕ) (x : Refusal) → l.settings ≡ c → v ≡ Err x
-      → input (state_of l records acks) pool s ≡ refused x
-  unfolding input state_of
-  refused_over l records acks pool x k r = rw (k, was_refused 0 (parse c.conv (mss c) s) x (sym verdict ∙ r))
+-- m is the mss of the settings: what the check of the datagram s answers
+pub not_taken : (l : Link) (records records' : List Record) (acks pool s : List ℕ) (m : ℕ) → m ≡ mss l.settings → (q : Refusal)
+    → Err q ≡ counted 0 (parse l.settings.conv m s)
+    → Takes (input (state_of l records acks) pool s) l pool acks (Err q) l records' pool acks
+unfolding input state_of
+not_taken l records records' acks pool s m e q c =
+    takes_nothing (input (state_of l records acks) pool s) l pool acks records' q
+    (rw (was_refused 0 (parse l.settings.conv (mss l.settings) s) q (rw e at (sym c))))
 
 -- ---- accepted
+
+pub begun : (l : Link) (s : List ℕ) (m : ℕ) → m ≡ mss l.settings → (n : ℕ) → Ok n ≡ counted 0 (parse l.settings.conv m s)
+    → Begun l.settings.conv (mss l.settings) s n
+begun l s m e n c = accepted l.settings.conv (mss l.settings) s n (rw e at (sym c))
 
 -- the block l, with these halves after the datagram s
 module _ (l : Link) (records : List Record) (pool acks s : List ℕ) (f : Flight) (a : Arrival)
@@ -93,9 +89,8 @@ module _ (l : Link) (records : List Record) (pool acks s : List ℕ) (f : Flight
         rw (h.queue, le-leb _ _ k.queued, le-leb _ _ h.fits, le-leb _ _ u.ready, le-leb _ _ u.waiting, le-leb _ _ u.noted)
 
     pub takes_all : counts_fit l ≡ true → length acks' ≡ length acks → (g : Flight) → g ≡ grown_from l.settings l.flight f
-        → InputCore (input (state_of l records acks) pool s) l pool acks (Ok tt)
-        (link_of l.settings g a l.clock (arrays l.queued words transmissions ready waiting numbers))
-        (record { words = words; changed = g.outstanding; records = records' }) pool' acks'
+        → Takes (input (state_of l records acks) pool s) l pool acks (Ok g.outstanding)
+        (link_of l.settings g a l.clock (arrays l.queued words transmissions ready waiting numbers)) records' pool' acks'
     takes_all e long g q =
         rw (q, outcome)
         (record {
@@ -107,15 +102,3 @@ module _ (l : Link) (records : List Record) (pool acks s : List ℕ) (f : Flight
           ack_length_lem = long;
           ack_rest_lem = (y b.all b.parsed).beyond;
         })
-
-  -- the lists that come back are those that were left
-  pub takes_back : sending.HearsAll l.settings l.clock.current s (flight_of l records) (sending.view f words transmissions records')
-      → (r w m : List ℕ) → receiving.HearsAll l.settings s (receiver_in l) acks pool (receiving.half_of a r w m) acks' pool'
-      → counts_fit l ≡ true → length acks' ≡ length acks → (g : Flight) → g ≡ grown_from l.settings l.flight f
-      → ready ≡ r → waiting ≡ w → numbers ≡ m
-      → InputCore (input (state_of l records acks) pool s) l pool acks (Ok tt)
-      (link_of l.settings g a l.clock (arrays l.queued words transmissions ready waiting numbers))
-      (record { words = words; changed = g.outstanding; records = records' }) pool' acks'
-  takes_back x r w m y e long g q p₁ p₂ p₃ =
-      let z : receiving.HearsAll l.settings s (receiver_in l) acks pool (receiver_in after) acks' pool' = rw (p₁, p₂, p₃) y in
-      takes_all x z e long g q

@@ -1,49 +1,67 @@
--- `input`: the checks of 7 and 13 and those of the datagram, then both halves hear it.
-use mathlib.Core.Path.{refl}
-use Rattle.control.specs.Views.{arrays, link_of}
-use Rattle.checking.specs.VerdictLaws.{admitted}
-use Rattle.input_core.proofs.Checks.{admits, refuses, passes, hearable}
-use Rattle.input_core.proofs.Takes.{takes_nothing}
+-- A datagram that passes its check is heard by both halves.
+use Rattle.std.proofs.Common.{rules}
+use Rattle.std.proofs.lemmas.Result.{err_from_is_err_and}
+use Rattle.control.specs.Views.{Whole, arrays_of}
+use Rattle.input_core.proofs.Checks.{established}
+use Rattle.input_core.proofs.Takes.{not_taken, begun, takes_all}
 use Rattle.input_core.proofs.input.Goals as goal
 
-pub returns-in-Err : goal.returns-in-Err
-returns-in-Err c =
+pub returns-in_err-check : goal.returns-in_err-check
+returns-in_err-check c =
     let a = c.args in
-    let b = link_of a.settings a.flight a.arrival a.clock
-    (arrays a.queued.now a.outstanding.now a.transmissions.now a.ready.now a.waiting.now a.waiting_numbers.now) in
-    let verdict = admitted b a.records.now c.requires.2.0 a.receive_marks.now c.enough-long.result a.sound c.flight_fits-flown.result
-    c.judged-verdict.result c.judged-verdict.ensures c.requires.2.1
-    (record { whole = c.requires.1; fits = c.flight_fits-flown.ensures }) in (
-      takes_nothing _ b _ _ _ _ _
-          (refuses b _ _ _ _ _ _ _ _ c.enough-long.ensures verdict _ c.mss-mss.ensures _ _ c.checked_by-checked.ensures _ c.in-Err.is),
-      c.requires.1,
+    let p = err_from_is_err_and c.from_residual.result c.from_residual.ensures.1 in (
+      rw (p.1, p.2) (not_taken a.link.now a.records.now a.records.now a.acks.now a.pool.now a.datagram.now
+          c.mss.result c.mss.ensures c.in_err-check.field-0.0 c.in_err-check.ensures),
+      search rules,
+      c.requires.whole,
+    )
+
+pub hear-sent-requires : goal.hear-sent-requires
+hear-sent-requires c =
+    let a = c.args in
+    let whole : Whole (arrays_of a.link.now) = search rules in
+    let ok = established a.link.now a.records.now a.marks.now a.acks.now a.pool.now c.requires whole in (
+      ok.order,
+      c.requires.whole,
+      (_, begun a.link.now a.datagram.now c.mss.result c.mss.ensures _ c.in_ok-check.ensures),
     )
 
 pub hear-requires : goal.hear-requires
 hear-requires c =
     let a = c.args in
-    let b = link_of a.settings a.flight a.arrival a.clock
-    (arrays a.queued.now a.outstanding.now a.transmissions.now a.ready.now a.waiting.now a.waiting_numbers.now) in
-    let verdict = admitted b a.records.now c.requires.2.0 a.receive_marks.now c.enough-long.result a.sound c.flight_fits-flown.result
-    c.judged-verdict.result c.judged-verdict.ensures c.requires.2.1
-    (record { whole = c.requires.1; fits = c.flight_fits-flown.ensures }) in
-    let passed = passes b _ _ a.receive_pool.now a.acks.now _ _ _ _ c.enough-long.ensures verdict
-    _ c.mss-mss.ensures _ _ c.checked_by-checked.ensures _ c.in_default.is in (
-      hearable b _ _ _ _ _ _ _ _ c.enough-long.ensures verdict c.requires.0 passed.0 refl refl,
-      c.requires.1,
-      (_, passed.1),
+    let whole : Whole (arrays_of a.link.now) = search rules in
+    let ok = established a.link.now a.records.now a.marks.now a.acks.now a.pool.now c.requires whole in (
+      search rules,
+      ok.marked,
+      ok.sound,
+      (_, begun a.link.now a.datagram.now c.mss.result c.mss.ensures _ c.in_ok-check.ensures),
     )
+
+pub grown-link-requires : goal.grown-link-requires
+grown-link-requires c =
+    let a = c.args in
+    let whole : Whole (arrays_of a.link.now) = search rules in
+    (established a.link.now a.records.now a.marks.now a.acks.now a.pool.now c.requires whole).growable_lem
 
 pub returns : goal.returns
 returns c =
     let a = c.args in
-    let b = link_of a.settings a.flight a.arrival a.clock
-    (arrays a.queued.now a.outstanding.now a.transmissions.now a.ready.now a.waiting.now a.waiting_numbers.now) in
-    let verdict = admitted b a.records.now c.requires.2.0 a.receive_marks.now c.enough-long.result a.sound c.flight_fits-flown.result
-    c.judged-verdict.result c.judged-verdict.ensures c.requires.2.1
-    (record { whole = c.requires.1; fits = c.flight_fits-flown.ensures }) in
-    let passed = passes b _ _ a.receive_pool.now a.acks.now _ _ _ _ c.enough-long.ensures verdict
-    _ c.mss-mss.ensures _ _ c.checked_by-checked.ensures _ c.in_default.is in (
-      rw (admits b _ _ _ _ _ _ _ _ c.enough-long.ensures verdict _ passed.0) c.hear.ensures.0,
-      c.hear.ensures.1,
+    let whole : Whole (arrays_of a.link.now) = search rules in
+    let ok = established a.link.now a.records.now a.marks.now a.acks.now a.pool.now c.requires whole in
+    let start = begun a.link.now a.datagram.now c.mss.result c.mss.ensures _ c.in_ok-check.ensures in
+    let half = c.hear.new.half in
+    let heard = c.hear-sent.ensures.0 start.all start.parsed in (
+      takes_all a.link.now a.records.now a.pool.now a.acks.now a.datagram.now c.hear-sent.result half.arrival
+          c.hear-sent.new.outstanding c.hear-sent.new.transmissions half.ready.now half.waiting.now half.numbers.now
+          c.hear-sent.new.records c.hear.new.pool c.hear.new.acks _ start
+          c.hear-sent.ensures.0 c.hear.ensures.hears ok.counts_fit_lem c.hear.auto.acks c.grown-link.result c.grown-link.ensures,
+      record {
+        whole_queued = whole.whole_queued;
+        whole_outstanding = heard.whole;
+        whole_transmissions = heard.wholes;
+        whole_ready = c.hear.ensures.whole.whole_ready;
+        whole_waiting = c.hear.ensures.whole.whole_waiting;
+        whole_numbers = c.hear.ensures.whole.whole_numbers;
+      },
+      c.hear-sent.ensures.1,
     )
