@@ -2,3 +2,4 @@ pub mod Paced
 pub mod Checks
 pub mod Written
 pub mod Named
+pub mod Taken

@@ -88,35 +88,27 @@ pub fn input(
 {
     let mut send_marks = [0; 128];
     let mut receive_marks = [0; 256];
-    let sound = block_check::sound(link, &mut send_marks, &mut receive_marks);
-    let n = link.flight.outstanding;
+    let lent = lent_lengths(send_pool, receive_pool, table, acks);
+    let long = sizes::enough(link.settings, lent);
+    block_check::check(link, long, table, &mut send_marks, &mut receive_marks)?;
     let mut records = records::none();
-    gathering::gather(table, &link.outstanding, n, &mut records);
-    let taken = input_core::input(
-        link.settings,
-        link.flight,
-        link.arrival,
-        link.clock,
-        sound,
+    gathering::gather(
+        table,
+        &link.outstanding,
+        link.flight.outstanding,
         &mut records,
-        table.len(),
-        &link.queued,
-        &mut link.outstanding,
-        &mut link.transmissions,
-        &mut link.ready,
-        &mut link.waiting,
-        &mut link.waiting_numbers,
+    );
+    let changed = input_core::input(
+        link,
+        &mut records,
         &receive_marks,
-        send_pool,
         receive_pool,
         acks,
         datagram,
-    );
+    )?;
     lending::whole(link);
-    link.flight = taken.flight;
-    link.arrival = taken.arrival;
-    gathering::scatter(table, &link.outstanding, taken.changed, &records);
-    taken.answer
+    gathering::scatter(table, &link.outstanding, changed, &records);
+    Ok(())
 }
 
 // A flush, or where it is paced an update.
