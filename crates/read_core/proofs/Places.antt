@@ -19,8 +19,6 @@ use Rattle.session.specs.Reading.{Part, readable, front_part, showing}
 use Rattle.words.specs.Words.{unpack, held_in}
 use Rattle.control.specs.Views.{state_of}
 use Rattle.control.specs.declared.Link.{Link}
-use Rattle.checking.specs.VerdictLaws.{Passes}
-use Rattle.promises.specs.Outcomes.{checked}
 use Rattle.promises.specs.Promises.{shown, place_of, LiesAt, ShowsPart}
 use Rattle.deliver.specs.Messages.{InSlots}
 use Rattle.deliver.proofs.Fronts.{rest, rest_next}

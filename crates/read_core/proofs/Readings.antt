@@ -20,9 +20,7 @@ use Rattle.control.specs.declared.Arrival.{Arrival}
 use Rattle.control.specs.declared.Clock.{Clock}
 use Rattle.control.specs.declared.Flight.{Flight}
 use Rattle.control.specs.declared.Link.{Link}
-use Rattle.checking.specs.VerdictLaws.{Passes}
 use Rattle.promises.specs.Answers.{count_outcome, size_of}
-use Rattle.promises.specs.Outcomes.{checked}
 use Rattle.promises.specs.Cores.{ReadCore}
 use Rattle.deliver.specs.Messages.{front_of, fitting_of, Taken}
 use Rattle.deliver.proofs.Copies.{in_pool_take, joined_length}

@@ -106,4 +106,3 @@ pub fn part_at<'a>(pool: &'a [u8], place: Place) -> &'a [u8]
     let end = start + place.count;
     &pool[start..end]
 }
-
