@@ -2,4 +2,4 @@ pub mod Paced
 pub mod Checks
 pub mod Written
 pub mod Named
-pub mod Taken
+pub mod Taking

@@ -106,7 +106,6 @@ pub fn input(
         acks,
         datagram,
     )?;
-    lending::whole(link);
     gathering::scatter(table, &link.outstanding, changed, &records);
     Ok(())
 }

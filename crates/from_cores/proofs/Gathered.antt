@@ -57,16 +57,6 @@ joined_padded ws ts n table = go (leb 32 (length records)) refl
     go false h = joined_enough (outstanding_in ws ts n) records (replicate (32 - length records) blank)
         (omega (arith, many, leb-false 32 (length records) h, paired_most (take n ws) (take n ts), length-take n ws))
 
--- with the blank ones there are 32
-pub padded_whole : (table : List Record) (ws : List ℕ) (n : ℕ) → length (padded (gathered table (slots_in ws n))) ≡ 32
-padded_whole table ws n =
-    let records = gathered table (slots_in ws n) in
-    let many = length-map (slots_in ws n) (λ (s : ℕ). get_or table s blank) ∙ length-map (take (min n 32) ws)
-    (λ (w : ℕ). w % 256) ∙ length-take (min n 32) ws in
-    let few : length records ≤ 32 = omega (arith, many) in
-    length-append records (replicate (32 - length records) blank) ∙ rw (length-replicate {A = Record} (32 - length records) blank)
-    (omega (arith, few))
-
 -- the state has the records joined to their segments
 pub state_joined : (l : Link) (r r' : List Record) (acks : List ℕ)
     → joined (outstanding_in l.outstanding l.transmissions l.flight.outstanding) r ≡ joined

@@ -1,23 +1,47 @@
-use Rattle.std.proofs.Common.{rules, ◌≡◌, length, ℕ, ◌+◌, ◌-◌, ◌*◌, ◌<◌, ◌≤◌, ◌/◌, ◌%◌, Bool, true, false, nat_eq, nat_lt, List, [], ◌∷◌, ◌++◌, slice_index_or, slice_set, bit_and, bit_or, Fits, w8, w32, w64, Bor, MutBor}
-use Rattle.promises.specs.Outcomes.{shows}
-use Rattle.promises.specs.Parts.{lent_lengths, parts_of, flush_parts_of}
-use Rattle.promises.specs.Promises.{OpenPromise, SendPromise, InputPromise, FlushPromise, UpdatePromise, CheckPromise, ReadPromise, SizePromise, ShowsPart, place_of}
-use Rattle.read_core.specs.Places.{PlaceIs}
-use Rattle.calls.specs.Written.{WrittenOut}
+-- The block is checked, the records gathered, and those that the core left are put back.
+use Rattle.std.proofs.Common.{rules}
+use Rattle.std.proofs.lemmas.Result.{err_from_is_err_and}
+use Rattle.control.specs.Views.{Whole, arrays_of}
+use Rattle.promises.specs.Parts.{parts_of}
+use Rattle.calls.proofs.Taking.{input_refused, input_hearable, input_not_taken, input_taken}
 use Rattle.calls.proofs.input.Goals as goal
 
--- src/lib.rt:93:5
 pub returns-in_err-check : goal.returns-in_err-check
-returns-in_err-check c = ?
+returns-in_err-check c =
+    let a = c.args in
+    let p = parts_of a.send_pool.now a.receive_pool.now a.table.now a.acks.now in
+    let x = err_from_is_err_and c.from_residual.result c.from_residual.ensures.1 in
+    let whole : Whole (arrays_of a.link.now) = search rules in
+    rw (x.1, x.2) (input_refused a.datagram.now a.link.now p _ _ c.enough-long.result c.check.result
+    (rw c.lent_lengths-lent.ensures at c.enough-long.ensures) c.check.ensures whole _ c.in_err-check.was)
 
--- src/lib.rt:101:19
 pub input-requires : goal.input-requires
-input-requires c = ?
+input-requires c =
+    let a = c.args in
+    let p = parts_of a.send_pool.now a.receive_pool.now a.table.now a.acks.now in
+    rw c.gather.ensures.1 (input_hearable a.datagram.now a.link.now p _ _ c.enough-long.result c.check.result
+    (rw c.lent_lengths-lent.ensures at c.enough-long.ensures) c.check.ensures c.in_ok-check.was)
 
--- src/lib.rt:101:19
 pub returns-in_err-changed : goal.returns-in_err-changed
-returns-in_err-changed c = ?
+returns-in_err-changed c =
+    let a = c.args in
+    let p = parts_of a.send_pool.now a.receive_pool.now a.table.now a.acks.now in
+    let x = err_from_is_err_and c.from_residual-in_err-changed.result c.from_residual-in_err-changed.ensures.1 in
+    let n = c.input.new in
+    let left = rw (c.in_err-changed.was, c.gather.ensures.1) at c.input.ensures.0 in
+    rw (x.1, x.2) (input_not_taken a.datagram.now a.link.now p _ _ c.enough-long.result c.check.result
+    (rw c.lent_lengths-lent.ensures at c.enough-long.ensures) c.check.ensures c.in_ok-check.was n.link n.records n.pool n.acks
+    c.input.ensures.1 c.input.ensures.2 _ left)
 
--- src/lib.rt:76:1
+pub scatter-requires : goal.scatter-requires
+scatter-requires c = (c.input.ensures.1.whole_outstanding, c.input.ensures.2)
+
 pub returns : goal.returns
-returns c = ?
+returns c =
+    let a = c.args in
+    let p = parts_of a.send_pool.now a.receive_pool.now a.table.now a.acks.now in
+    let n = c.input.new in
+    let left = rw (c.in_ok-changed.was, c.gather.ensures.1) at c.input.ensures.0 in
+    input_taken a.datagram.now a.link.now p _ _ c.enough-long.result c.check.result
+    (rw c.lent_lengths-lent.ensures at c.enough-long.ensures) c.check.ensures c.in_ok-check.was n.link n.records n.pool n.acks
+    c.input.ensures.1 c.input.ensures.2 _ left c.scatter.new.table c.scatter.ensures
