@@ -325,7 +325,13 @@ pub fn size(bench: Bench, send_pool: &[u8], receive_pool: &[u8], acks: &[u32]) -
     )
 }
 
-pub fn check(bench: Bench, send_pool: &[u8], receive_pool: &[u8], acks: &[u32], t: u32) -> Answer<u32>
+pub fn check(
+    bench: Bench,
+    send_pool: &[u8],
+    receive_pool: &[u8],
+    acks: &[u32],
+    t: u32,
+) -> Answer<u32>
     ensures { BenchChecks t bench send_pool.now receive_pool.now acks.now result }
 {
     let s = front(bench.lent.send, send_pool);

@@ -147,8 +147,15 @@ module _ (name value : List ℕ) where
   unfolding is_tag read_from is_message
   read_written e =
       let t = and_parts (is_name name) (is_value value) e in
-      rw (name_in_lem, value_length_lem, name_length_lem, length_message name value, t.0, t.1,
-      eq-eqb (1 + length name + 1 + length value) _ refl)
+      rw (
+        name_in_lem,
+        value_length_lem,
+        name_length_lem,
+        length_message name value,
+        t.0,
+        t.1,
+        eq-eqb (1 + length name + 1 + length value) _ refl,
+      )
 
 -- what a message that is read has passed
 pub record Passed (m : List ℕ) : Type 0 where

@@ -8,7 +8,7 @@ use Rattle.galois.proofs.multiply.Goals as goal
 
 pub returns-then-a-eq0 : goal.returns-then-a-eq0
 returns-then-a-eq0 c = elim c.then-a-eq0.branch [
-  then-a-eq0-via-then-a-eq0 w ↦ rw w.if-a-eq0.true (sym (zero_mul _))
+  | then-a-eq0-via-then-a-eq0 w ↦ rw w.if-a-eq0.true (sym (zero_mul _))
   | then-a-eq0-via-else-a-eq0+then-b-eq0 w ↦ rw w.if-b-eq0.true (sym (mul_zero _))
 ]
 
