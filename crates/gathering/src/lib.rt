@@ -54,13 +54,11 @@ pub fn gather(table: &[Record], words: &[u32; 32], n: usize, records: &mut [Reco
         × (records.new ≡ padded (gathered (take send_slots table.now) (slots_in words.now n))) }
 {
     let count = within(n);
-    let mut i = 0;
-    while i < count {
+    for i in 0..count {
         let word = word_at(words, i);
         let slot = reach(word);
         let found = records::read(table, slot);
         records[i] = found;
-        i += 1;
     }
 }
 
@@ -89,12 +87,10 @@ pub fn scatter(table: &mut [Record], words: &[u32; 32], n: usize, records: &[Rec
         ≡ scattered table.old (slots_in words.now n) records.now }
 {
     let count = within(n);
-    let mut i = 0;
-    while i < count {
+    for i in 0..count {
         let word = word_at(words, i);
         let slot = slot_of(word);
         let updated = records[i];
         records::replace(table, slot, updated);
-        i += 1;
     }
 }

@@ -10,6 +10,3 @@ invariant-loop-i l = record {
   whole : length l.records ≡ 32;
   so_far : l.records ≡ padded (gathered (take send_slots l.table) (take l.i (slots_in l.words l.n)));
 }
-
-abbrev pub decreases-loop-i : goal.decreases-loop-i
-decreases-loop-i l = l.count - l.i

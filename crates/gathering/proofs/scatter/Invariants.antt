@@ -11,6 +11,3 @@ invariant-loop-i l =
       within : l.i ≤ l.count;
       left : Left l.table slots l.records l.i (scattered l.fn.table slots l.records);
     }
-
-abbrev pub decreases-loop-i : goal.decreases-loop-i
-decreases-loop-i l = l.count - l.i
