@@ -12,21 +12,6 @@ use control::Flight;
 use protocol::Settings;
 use timing::Record;
 
-// How many are gathered, 32 at most.
-fn within(n: usize) -> usize
-    ensures { (result ≡ min n 32) × (result ≤ 32) }
-{
-    if n < 32 { n } else { 32 }
-}
-
-// The word at an index.
-fn word_at(words: &[u32; 32], i: usize) -> u32
-    requires { (length words.now ≡ 32) × (i < 32) }
-    ensures { result ≡ get_or words.now i 0 }
-{
-    words[i]
-}
-
 // The slot of a word.
 fn slot_of(word: u32) -> usize
     ensures { result ≡ word % 256 }
@@ -39,11 +24,7 @@ fn reach(word: u32) -> usize
     ensures { result ≡ reach word }
 {
     let slot = slot_of(word);
-    if slot < 128 {
-        slot
-    } else {
-        18446744073709551615
-    }
+    if slot < 128 { slot } else { usize::MAX }
 }
 
 // The records at the slots of the first n words, in their order, into an array that holds blank ones. Of the table the first 128
@@ -53,9 +34,9 @@ pub fn gather(table: &[Record], words: &[u32; 32], n: usize, records: &mut [Reco
     ensures { (length records.new ≡ 32)
         × (records.new ≡ padded (gathered (take send_slots table.now) (slots_in words.now n))) }
 {
-    let count = within(n);
+    let count = n.min(32);
     for i in 0..count {
-        let word = word_at(words, i);
+        let word = words[i];
         let slot = reach(word);
         let found = records::read(table, slot);
         records[i] = found;
@@ -86,9 +67,9 @@ pub fn scatter(table: &mut [Record], words: &[u32; 32], n: usize, records: &[Rec
     ensures { table.new
         ≡ scattered table.old (slots_in words.now n) records.now }
 {
-    let count = within(n);
+    let count = n.min(32);
     for i in 0..count {
-        let word = word_at(words, i);
+        let word = words[i];
         let slot = slot_of(word);
         let updated = records[i];
         records::replace(table, slot, updated);

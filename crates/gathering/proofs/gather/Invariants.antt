@@ -1,5 +1,5 @@
 -- The records of the first i slots are gathered.
-use Rattle.std.proofs.Common.{◌-◌, ◌≡◌, ◌≤◌, length, take}
+use Rattle.std.proofs.Common.{◌≡◌, ◌≤◌, length, take}
 use Rattle.protocol.specs.Protocol.{send_slots}
 use Rattle.records.specs.Tables.{slots_in, gathered, padded}
 use Rattle.gathering.proofs.gather.Given as goal

@@ -1,5 +1,5 @@
 -- The records behind the first i slots, put into the table as it is now, give the table that is wanted.
-use Rattle.std.proofs.Common.{◌-◌, ◌≤◌}
+use Rattle.std.proofs.Common.{◌≤◌}
 use Rattle.records.specs.Tables.{slots_in, scattered}
 use Rattle.records.proofs.Turns.{Left}
 use Rattle.gathering.proofs.scatter.Given as goal
