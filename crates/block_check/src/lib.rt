@@ -3,37 +3,12 @@
 
 ghost use Rattle.std.specs.Prelude.{◌≡◌};
 ghost use Rattle.marks.specs.Marks.{none, none_to_send};
-ghost use Rattle.checking.specs.Verdicts.{Sound, Admitted};
+ghost use Rattle.checking.specs.Verdicts.{Admitted};
 ghost use Rattle.block_check.specs.Lent.{lent_records};
 
 use answers::Answer;
 use control::Link;
 use timing::Record;
-
-// Whether a block is one that this link makes, but for the records of its outstanding segments. The slots held are marked.
-pub fn sound(link: &Link, send_marks: &mut [u8; 128], receive_marks: &mut [u8; 256]) -> bool
-    requires { (send_marks.old ≡ none_to_send) × (receive_marks.old ≡ none) }
-    ensures { Sound link.now send_marks.new receive_marks.new result }
-{
-    let settings = link.settings;
-    let flight = link.flight;
-    let arrival = link.arrival;
-    let clock = link.clock;
-    checking::sound(
-        settings,
-        flight,
-        arrival,
-        clock,
-        &link.queued,
-        &link.outstanding,
-        &link.transmissions,
-        &link.ready,
-        &link.waiting,
-        &link.waiting_numbers,
-        send_marks,
-        receive_marks,
-    )
-}
 
 // 7, where the lent parts are not long enough, then 13, the records of the outstanding segments in the lent table among it. The slots held
 // are marked.
@@ -47,7 +22,7 @@ pub fn check(
     requires { (send_marks.old ≡ none_to_send) × (receive_marks.old ≡ none) }
     ensures { Admitted long link.now (lent_records link.now table.now) send_marks.new receive_marks.new result }
 {
-    let sound = sound(link, send_marks, receive_marks);
+    let sound = checking::sound(link, send_marks, receive_marks);
     let fit = gathering::fit(table, &link.outstanding, link.settings, link.flight);
     checking::judged(long, sound & fit)
 }

@@ -10,13 +10,12 @@ pub mod numbers;
 
 ghost use Rattle.std.specs.Prelude.{◌≡◌, ◌≤◌, length};
 ghost use Rattle.marks.specs.Marks.{none, none_to_send};
-ghost use Rattle.control.specs.Views.{arrays, link_of, Whole};
 ghost use Rattle.checking.specs.Tests.{SendingFits, ReceivingFits};
 ghost use Rattle.checking.specs.Verdicts.{Sound, verdict_of};
 
 use answers::Answer;
-use control::{Arrival, Clock, Flight};
-use protocol::{Refusal, Settings};
+use control::Link;
+use protocol::Refusal;
 
 // 7, then 13.
 pub fn judged(long: bool, made: bool) -> Answer<()>
@@ -75,36 +74,24 @@ fn receiving_fits(
 
 // Whether a block is one that this link makes, but for the records of its outstanding segments. The slots held are marked. The lists are
 // looked at where the numbers fit, and the receiving half where the sending half does.
-pub fn sound(
-    settings: Settings,
-    flight: Flight,
-    arrival: Arrival,
-    clock: Clock,
-    queued: &[u32; 128],
-    outstanding: &[u32; 32],
-    transmissions: &[u8; 32],
-    ready: &[u32; 128],
-    waiting: &[u32; 128],
-    waiting_numbers: &[u32; 128],
-    send_marks: &mut [u8; 128],
-    receive_marks: &mut [u8; 256],
-) -> bool
-    requires { Whole (arrays queued.now outstanding.now transmissions.now ready.now waiting.now waiting_numbers.now)
-        × (send_marks.old ≡ none_to_send) × (receive_marks.old ≡ none) }
-    ensures { Sound (link_of settings flight arrival clock (arrays queued.now outstanding.now
-        transmissions.now ready.now waiting.now waiting_numbers.now))
-        send_marks.new receive_marks.new result }
+pub fn sound(link: &Link, send_marks: &mut [u8; 128], receive_marks: &mut [u8; 256]) -> bool
+    requires { (send_marks.old ≡ none_to_send) × (receive_marks.old ≡ none) }
+    ensures { Sound link.now send_marks.new receive_marks.new result }
 {
-    if !numbers::numbers_fit(settings, flight, arrival, clock) {
+    let settings = link.settings;
+    let flight = link.flight;
+    let arrival = link.arrival;
+    let expected = link.arrival.expected;
+    if !numbers::numbers_fit(settings, flight, arrival, link.clock) {
         return false;
     }
     let most = settings.mss();
     let mss = most as u16;
     let m = flight.outstanding;
     let sends = sending_fits(
-        &queued[..flight.queued],
-        &outstanding[..m],
-        &transmissions[..m],
+        &link.queued[..flight.queued],
+        &link.outstanding[..m],
+        &link.transmissions[..m],
         mss,
         send_marks,
     );
@@ -113,10 +100,10 @@ pub fn sound(
     }
     let w = arrival.waiting;
     receiving_fits(
-        &ready[..arrival.ready],
-        &waiting[..w],
-        &waiting_numbers[..w],
-        arrival.expected,
+        &link.ready[..arrival.ready],
+        &link.waiting[..w],
+        &link.waiting_numbers[..w],
+        expected,
         mss,
         receive_marks,
     )

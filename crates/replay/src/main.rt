@@ -84,13 +84,22 @@ fn run(rt: &impl Print, script: &[u8]) -> io::Result<()>
     Ok(())
 }
 
-fn main(rt: HostRuntime) -> io::Result<()> {
-    let mut script = Vec::new(rt.alloc());
-    rt.stdin()
-        .take(script::SCRIPT_MOST as u64 + 1)
-        .read_to_end(&mut script)?;
-    if script::SCRIPT_MOST < script.len() {
+// Reads a script into `room`, which has one byte more than the longest script, and plays it.
+fn start(rt: &HostRuntime, room: &mut [u8]) -> io::Result<()> {
+    let mut input = rt.stdin().take(script::SCRIPT_MOST as u64 + 1);
+    let mut rest = &mut *room;
+    let n = io::copy(&mut input, &mut rest)? as usize;
+    if script::SCRIPT_MOST < n {
         return rt.write_all(b"too long\n");
     }
-    run(&rt, &script)
+    run(rt, notation::front(room, n))
+}
+
+fn start_in(rt: &HostRuntime, room: &mut [u8; script::SCRIPT_MOST + 1]) -> io::Result<()> {
+    start(rt, room)
+}
+
+fn main(rt: HostRuntime) -> io::Result<()> {
+    let mut room = [0u8; script::SCRIPT_MOST + 1];
+    start_in(&rt, &mut room)
 }
