@@ -5,8 +5,6 @@ ghost use Rattle.std.specs.Prelude.{◌≡◌, ℕ, ◌+◌, ◌≤◌, ◌<◌,
 ghost use Rattle.galois.specs.Field.{plus, double, mul};
 ghost use Rattle.rows.specs.Rows.{Row, behind, stepped};
 
-use std::array;
-
 // Each byte becomes 0.
 pub fn clear(row: &mut [u8])
     ensures { Row (λ x. 0) (length row.old) row.new }
@@ -48,7 +46,11 @@ pub fn step(w: usize, row: &mut [u8])
 fn products(c: u8) -> [u8; 256]
     ensures { Row (λ x. mul c x) 256 result }
 {
-    array::from_fn(|b| galois::multiply(c, b as u8))
+    let mut table = [0; 256];
+    for b in 0..=u8::MAX {
+        table[usize::from(b)] = galois::multiply(c, b);
+    }
+    table
 }
 
 // Each byte is multiplied with c.
