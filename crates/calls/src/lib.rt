@@ -69,7 +69,7 @@ pub fn send(
     let lent = lent_lengths(send_pool, receive_pool, table, acks);
     let long = sizes::enough(link.settings, lent);
     block_check::check(link, long, table, &mut send_marks, &mut receive_marks)?;
-    send_core::send(link, &send_marks, send_pool, message)
+    send_core::send_checked(link, &send_marks, send_pool, message)
 }
 
 // Taking in a datagram.
@@ -98,7 +98,7 @@ pub fn input(
         link.flight.outstanding,
         &mut records,
     );
-    let changed = input_core::input(
+    let changed = input_core::input_checked(
         link,
         &mut records,
         &receive_marks,
@@ -140,7 +140,7 @@ fn write(
         link.flight.outstanding,
         &mut records,
     );
-    let flushed = flush_core::flush(
+    let flushed = flush_core::flush_checked(
         link,
         &mut records,
         send_pool,
@@ -242,7 +242,7 @@ pub fn check(
         link.flight.outstanding,
         &mut records,
     );
-    Ok(check_core::check(link, &records, t))
+    Ok(check_core::next_update(link, &records, t))
 }
 
 // Reading a message: how many bytes it has.
@@ -265,7 +265,7 @@ pub fn read(
     let lent = lent_lengths(send_pool, receive_pool, table, acks);
     let long = sizes::enough(link.settings, lent);
     block_check::check(link, long, table, &mut send_marks, &mut receive_marks)?;
-    read_core::read(link, receive_pool, buffer)
+    read_core::read_checked(link, receive_pool, buffer)
 }
 
 // Telling the size of the next message.
@@ -284,7 +284,7 @@ pub fn size(
     let lent = lent_lengths(send_pool, receive_pool, table, acks);
     let long = sizes::enough(link.settings, lent);
     block_check::check(link, long, table, &mut send_marks, &mut receive_marks)?;
-    read_core::size(link)
+    read_core::size_checked(link)
 }
 
 // Where in the receive pool the front segment's payload lies; 0 and 0 where showing is refused.
@@ -304,7 +304,7 @@ pub fn locate(
     let lent = lent_lengths(send_pool, receive_pool, table, acks);
     let long = sizes::enough(link.settings, lent);
     match block_check::check(link, long, table, &mut send_marks, &mut receive_marks) {
-        Ok(()) => read_core::locate(link),
+        Ok(()) => read_core::locate_checked(link),
         Err(_) => Place { start: 0, count: 0 },
     }
 }

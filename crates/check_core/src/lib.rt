@@ -10,7 +10,7 @@ use flush_core::parts;
 use timing::Record;
 
 // The time at which the next update is wanted.
-pub fn check(link: &Link, records: &[Record; 32], t: u32) -> u32
+pub fn next_update(link: &Link, records: &[Record; 32], t: u32) -> u32
     requires { counts_fit link.now ≡ true }
     ensures { (acks : List ℕ) → result ≡ checking (state_of link.now records.now acks) t }
 {

@@ -71,7 +71,7 @@ fn flush_now(
 
 // A flush, or where it is paced an update. An update moves the schedule on, and flushes only where it is due; else the current time
 // changes, and that alone.
-pub fn flush(
+pub fn flush_checked(
     link: &mut Link,
     records: &mut [Record; 32],
     pool: &[u8],

@@ -28,7 +28,7 @@ fn grown(settings: Settings, before: Flight, after: Flight) -> Flight
 
 // Taking in checks 1 to 6 and 14; nothing is applied until all segments have passed. Then both halves hear the datagram. It answers how
 // many records go back into the table: the first ones, by their words.
-pub fn input(
+pub fn input_checked(
     link: &mut Link,
     records: &mut [Record; 32],
     marks: &[u8; 256],

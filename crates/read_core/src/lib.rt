@@ -45,7 +45,7 @@ fn read_message(half: &mut Incoming, mss: usize, pool: &[u8], buffer: &mut [u8])
 }
 
 // Reading the message at the front: 9, then 7 for the buffer.
-pub fn read(link: &mut Link, pool: &[u8], buffer: &mut [u8]) -> Answer<usize>
+pub fn read_checked(link: &mut Link, pool: &[u8], buffer: &mut [u8]) -> Answer<usize>
     requires { Readable link.old pool.now }
     ensures { (records : List Record) (acks : List ℕ) → ReadCore (reading (state_of link.old records acks) pool.now (length buffer.old))
         link.old records acks buffer.old result link.new buffer.new }
@@ -64,7 +64,7 @@ pub fn read(link: &mut Link, pool: &[u8], buffer: &mut [u8]) -> Answer<usize>
 }
 
 // The size of the message at the front: 9 where none can be read.
-pub fn size(link: &Link) -> Answer<usize>
+pub fn size_checked(link: &Link) -> Answer<usize>
     requires { counts_fit link.now ≡ true }
     ensures { (records : List Record) (acks : List ℕ) → count_outcome result ≡ telling (state_of link.now records acks) }
 {
@@ -88,7 +88,7 @@ fn front_place(mss: usize, ready: &[u32; 128], n: usize) -> Place
 }
 
 // Where in the receive pool the part lies that showing gives; 0 and 0 where no message can be read.
-pub fn locate(link: &Link) -> Place
+pub fn locate_checked(link: &Link) -> Place
     requires { (pool : List ℕ) × Readable link.now pool }
     ensures { (pool : List ℕ) → Readable link.now pool → (records : List Record) (acks : List ℕ)
         → PlaceIs (place_of (showing (state_of link.now records acks))) (length pool) result }

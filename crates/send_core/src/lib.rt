@@ -13,7 +13,12 @@ use control::Link;
 use enqueue::Outgoing;
 
 // Sending: 10, then 11.
-pub fn send(link: &mut Link, marks: &[u8; 128], pool: &mut [u8], message: &[u8]) -> Answer<()>
+pub fn send_checked(
+    link: &mut Link,
+    marks: &[u8; 128],
+    pool: &mut [u8],
+    message: &[u8],
+) -> Answer<()>
     requires { (records : List Record) × Sendable link.old records marks.now pool.old }
     ensures { (records : List Record) (acks : List ℕ) → Sendable link.old records marks.now pool.old
         → SendCore (sending (state_of link.old records acks) pool.old message.now) link.old records acks pool.old

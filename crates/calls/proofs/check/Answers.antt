@@ -11,8 +11,8 @@ returns-in_err-check c =
     rw (p.1, p.2) (unnamed c.args.link.now parts _ (rw c.lent_lengths-lent.ensures at c.enough-long.ensures) _ _ _ c.check.ensures c.args.t _
     c.in_err-check.was)
 
-pub check-requires-2 : goal.check-requires-2
-check-requires-2 c =
+pub next_update-requires : goal.next_update-requires
+next_update-requires c =
     let parts = parts_of c.args.send_pool.now c.args.receive_pool.now c.args.table.now c.args.acks.now in
     counted c.args.link.now parts _ (rw c.lent_lengths-lent.ensures at c.enough-long.ensures) _ _ _ c.check.ensures c.args.t c.in_ok-check.was
 
@@ -20,4 +20,4 @@ pub returns : goal.returns
 returns c =
     let parts = parts_of c.args.send_pool.now c.args.receive_pool.now c.args.table.now c.args.acks.now in
     named c.args.link.now parts _ (rw c.lent_lengths-lent.ensures at c.enough-long.ensures) _ _ _ c.check.ensures c.args.t c.in_ok-check.was
-    _ c.gather.ensures.1 _ c.check-2.ensures
+    _ c.gather.ensures.1 _ c.next_update.ensures

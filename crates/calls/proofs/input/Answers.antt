@@ -15,8 +15,8 @@ returns-in_err-check c =
     rw (x.1, x.2) (input_refused a.datagram.now a.link.now p _ _ c.enough-long.result c.check.result
     (rw c.lent_lengths-lent.ensures at c.enough-long.ensures) c.check.ensures whole _ c.in_err-check.was)
 
-pub input-requires : goal.input-requires
-input-requires c =
+pub input_checked-requires : goal.input_checked-requires
+input_checked-requires c =
     let a = c.args in
     let p = parts_of a.send_pool.now a.receive_pool.now a.table.now a.acks.now in
     rw c.gather.ensures.1 (input_hearable a.datagram.now a.link.now p _ _ c.enough-long.result c.check.result
@@ -27,21 +27,21 @@ returns-in_err-changed c =
     let a = c.args in
     let p = parts_of a.send_pool.now a.receive_pool.now a.table.now a.acks.now in
     let x = err_from_is_err_and c.from_residual-in_err-changed.result c.from_residual-in_err-changed.ensures.1 in
-    let n = c.input.new in
-    let left = rw (c.in_err-changed.was, c.gather.ensures.1) at c.input.ensures.0 in
+    let n = c.input_checked.new in
+    let left = rw (c.in_err-changed.was, c.gather.ensures.1) at c.input_checked.ensures.0 in
     rw (x.1, x.2) (input_not_taken a.datagram.now a.link.now p _ _ c.enough-long.result c.check.result
     (rw c.lent_lengths-lent.ensures at c.enough-long.ensures) c.check.ensures c.in_ok-check.was n.link n.records n.pool n.acks
-    c.input.ensures.1 c.input.ensures.2 _ left)
+    c.input_checked.ensures.1 c.input_checked.ensures.2 _ left)
 
 pub scatter-requires : goal.scatter-requires
-scatter-requires c = (c.input.ensures.1.whole_outstanding, c.input.ensures.2)
+scatter-requires c = (c.input_checked.ensures.1.whole_outstanding, c.input_checked.ensures.2)
 
 pub returns : goal.returns
 returns c =
     let a = c.args in
     let p = parts_of a.send_pool.now a.receive_pool.now a.table.now a.acks.now in
-    let n = c.input.new in
-    let left = rw (c.in_ok-changed.was, c.gather.ensures.1) at c.input.ensures.0 in
+    let n = c.input_checked.new in
+    let left = rw (c.in_ok-changed.was, c.gather.ensures.1) at c.input_checked.ensures.0 in
     input_taken a.datagram.now a.link.now p _ _ c.enough-long.result c.check.result
     (rw c.lent_lengths-lent.ensures at c.enough-long.ensures) c.check.ensures c.in_ok-check.was n.link n.records n.pool n.acks
-    c.input.ensures.1 c.input.ensures.2 _ left c.scatter.new.table c.scatter.ensures
+    c.input_checked.ensures.1 c.input_checked.ensures.2 _ left c.scatter.new.table c.scatter.ensures

@@ -4,8 +4,8 @@ use Rattle.block_check.specs.Lent.{lent_records}
 use Rattle.calls.proofs.Checks.{long_of, readable, unshown, placed}
 use Rattle.calls.proofs.locate.Goals as goal
 
-pub locate-requires : goal.locate-requires
-locate-requires c =
+pub locate_checked-requires : goal.locate_checked-requires
+locate_checked-requires c =
     let h = c.args.link.now in
     let p = parts_of c.args.send_pool.now c.args.receive_pool.now c.args.table.now c.args.acks.now in (
       p.receive_pool,
@@ -19,8 +19,8 @@ returns-in-Ok c =
     let p = parts_of c.args.send_pool.now c.args.receive_pool.now c.args.table.now c.args.acks.now in
     let long = long_of h p _ _ c.enough-long.ensures c.lent_lengths-lent.ensures in
     let marks = c.check.new in
-    placed h p c.enough-long.result long marks.send_marks marks.receive_marks c.check.result c.check.ensures c.in-Ok.is c.locate.result
-    (c.locate.ensures p.receive_pool
+    placed h p c.enough-long.result long marks.send_marks marks.receive_marks c.check.result c.check.ensures c.in-Ok.is c.locate_checked.result
+    (c.locate_checked.ensures p.receive_pool
     (readable h p c.enough-long.result long marks.send_marks marks.receive_marks c.check.result c.check.ensures c.in-Ok.is)
     (lent_records h p.table) p.acks)
 

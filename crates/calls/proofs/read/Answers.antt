@@ -13,8 +13,8 @@ returns-in_err-check c =
     rw (q.1, q.2) (unread h p c.enough-long.result (long_of h p _ _ c.enough-long.ensures c.lent_lengths-lent.ensures)
     c.check.new.send_marks c.check.new.receive_marks c.check.result c.check.ensures c.args.buffer.now _ c.in_err-check.was)
 
-pub read-requires : goal.read-requires
-read-requires c =
+pub read_checked-requires : goal.read_checked-requires
+read_checked-requires c =
     let h = c.args.link.now in
     let p = parts_of c.args.send_pool.now c.args.receive_pool.now c.args.table.now c.args.acks.now in
     readable h p c.enough-long.result (long_of h p _ _ c.enough-long.ensures c.lent_lengths-lent.ensures)
@@ -26,4 +26,4 @@ returns c =
     let p = parts_of c.args.send_pool.now c.args.receive_pool.now c.args.table.now c.args.acks.now in
     was_read h p c.enough-long.result (long_of h p _ _ c.enough-long.ensures c.lent_lengths-lent.ensures)
     c.check.new.send_marks c.check.new.receive_marks c.check.result c.check.ensures c.in_ok-check.was
-    c.args.buffer.now c.read.result c.read.new.link c.read.new.buffer (c.read.ensures (lent_records h p.table) p.acks)
+    c.args.buffer.now c.read_checked.result c.read_checked.new.link c.read_checked.new.buffer (c.read_checked.ensures (lent_records h p.table) p.acks)

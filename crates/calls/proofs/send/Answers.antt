@@ -13,8 +13,8 @@ returns-in_err-check c =
     rw (q.1, q.2) (not_sent h p c.enough-long.result (long_of h p _ _ c.enough-long.ensures c.lent_lengths-lent.ensures)
     c.check.new.send_marks c.check.new.receive_marks c.check.result c.check.ensures c.args.message.now _ c.in_err-check.was)
 
-pub send-requires : goal.send-requires
-send-requires c =
+pub send_checked-requires : goal.send_checked-requires
+send_checked-requires c =
     let h = c.args.link.now in
     let p = parts_of c.args.send_pool.now c.args.receive_pool.now c.args.table.now c.args.acks.now in (
       lent_records h p.table,
@@ -29,6 +29,6 @@ returns c =
     let long = long_of h p _ _ c.enough-long.ensures c.lent_lengths-lent.ensures in
     let marks = c.check.new in
     sent h p c.enough-long.result long marks.send_marks marks.receive_marks c.check.result c.check.ensures c.in_ok-check.was
-    c.args.message.now c.send.result c.send.new.link c.send.new.pool
-    (c.send.ensures (lent_records h p.table) p.acks
+    c.args.message.now c.send_checked.result c.send_checked.new.link c.send_checked.new.pool
+    (c.send_checked.ensures (lent_records h p.table) p.acks
     (sendable h p c.enough-long.result long marks.send_marks marks.receive_marks c.check.result c.check.ensures c.in_ok-check.was))

@@ -13,8 +13,8 @@ returns-in_err-check c =
     rw (q.1, q.2) (untold h p c.enough-long.result (long_of h p _ _ c.enough-long.ensures c.lent_lengths-lent.ensures)
     c.check.new.send_marks c.check.new.receive_marks c.check.result c.check.ensures _ c.in_err-check.was)
 
-pub size-requires : goal.size-requires
-size-requires c =
+pub size_checked-requires : goal.size_checked-requires
+size_checked-requires c =
     let h = c.args.link.now in
     let p = parts_of c.args.send_pool.now c.args.receive_pool.now c.args.table.now c.args.acks.now in
     (readable h p c.enough-long.result (long_of h p _ _ c.enough-long.ensures c.lent_lengths-lent.ensures)
@@ -26,4 +26,4 @@ returns c =
     let p = parts_of c.args.send_pool.now c.args.receive_pool.now c.args.table.now c.args.acks.now in
     told h p c.enough-long.result (long_of h p _ _ c.enough-long.ensures c.lent_lengths-lent.ensures)
     c.check.new.send_marks c.check.new.receive_marks c.check.result c.check.ensures c.in_ok-check.was
-    c.size.result (c.size.ensures (lent_records h p.table) p.acks)
+    c.size_checked.result (c.size_checked.ensures (lent_records h p.table) p.acks)

@@ -13,8 +13,8 @@ returns-in_err-check c =
     rw (p.1, p.2) (unwritten c.args.link.now parts into _ (rw c.lent_lengths-lent.ensures at c.enough_to_flush-long.ensures) _ _ _
     c.check.ensures _ c.in_err-check.was (search rules) c.args.paced c.args.t)
 
-pub flush-flushed-requires : goal.flush-flushed-requires
-flush-flushed-requires c =
+pub flush_checked-flushed-requires : goal.flush_checked-flushed-requires
+flush_checked-flushed-requires c =
     let parts = parts_of c.args.send_pool.now c.args.receive_pool.now c.args.table.now c.args.acks.now in
     let into = flush_parts_of c.args.output.now c.args.lengths.now in
     flushable c.args.link.now parts into _ (rw c.lent_lengths-lent.ensures at c.enough_to_flush-long.ensures) _ _ _ c.check.ensures
@@ -24,7 +24,7 @@ pub returns : goal.returns
 returns c =
     let parts = parts_of c.args.send_pool.now c.args.receive_pool.now c.args.table.now c.args.acks.now in
     let into = flush_parts_of c.args.output.now c.args.lengths.now in
-    let filled = flush_parts_of c.flush-flushed.new.output c.flush-flushed.new.lengths in
+    let filled = flush_parts_of c.flush_checked-flushed.new.output c.flush_checked-flushed.new.lengths in
     written c.args.link.now parts into _ (rw c.lent_lengths-lent.ensures at c.enough_to_flush-long.ensures) _ _ _ c.check.ensures
-    c.in_ok-check.was _ c.gather.ensures.1 c.args.paced c.args.t c.flush-flushed.result _ _ filled _ c.whole.ensures (search rules)
-    c.scatter.ensures c.flush-flushed.ensures
+    c.in_ok-check.was _ c.gather.ensures.1 c.args.paced c.args.t c.flush_checked-flushed.result _ _ filled _ c.whole.ensures (search rules)
+    c.scatter.ensures c.flush_checked-flushed.ensures

@@ -1,7 +1,7 @@
 -- What the flush leaves, or what waiting leaves.
 use Rattle.control.specs.Views.{arrays_of}
 use Rattle.flush_core.proofs.Paces.{flushed, waited}
-use Rattle.flush_core.proofs.flush.Goals as goal
+use Rattle.flush_core.proofs.flush_checked.Goals as goal
 
 pub flush_now-requires : goal.flush_now-requires
 flush_now-requires c =

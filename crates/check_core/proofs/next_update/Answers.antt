@@ -1,7 +1,7 @@
 -- What the schedule names, as what a check names.
 use Rattle.std.proofs.Common.{rules}
 use Rattle.check_core.proofs.Dues.{names}
-use Rattle.check_core.proofs.check.Goals as goal
+use Rattle.check_core.proofs.next_update.Goals as goal
 
 pub returns : goal.returns
 returns c acks =

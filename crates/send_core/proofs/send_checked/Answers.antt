@@ -3,7 +3,7 @@ use Rattle.std.proofs.Common.{rules, refl, []}
 use Rattle.protocol.specs.Ranges.{is_stream}
 use Rattle.control.specs.Views.{Whole, arrays_of}
 use Rattle.send_core.proofs.Sends.{established, enqueueable, sent}
-use Rattle.send_core.proofs.send.Goals as goal
+use Rattle.send_core.proofs.send_checked.Goals as goal
 
 pub enqueue-answer-requires : goal.enqueue-answer-requires
 enqueue-answer-requires c =

@@ -3,7 +3,7 @@ use Rattle.std.proofs.Common.{arith}
 use Rattle.std.proofs.Math.ListN.{length-take}
 use Rattle.read_core.proofs.Blocks.{block_counts}
 use Rattle.read_core.proofs.Readings.{tells_block}
-use Rattle.read_core.proofs.size.Goals as goal
+use Rattle.read_core.proofs.size_checked.Goals as goal
 
 pub shared_ref_as_front-front_size : goal.shared_ref_as_front-front_size
 shared_ref_as_front-front_size c = (block_counts c.args.link.now c.requires).ready

@@ -1,7 +1,7 @@
 -- The front segment's place, as what showing gives.
 use Rattle.read_core.proofs.Blocks.{block_counts}
 use Rattle.read_core.proofs.Places.{placed}
-use Rattle.read_core.proofs.locate.Goals as goal
+use Rattle.read_core.proofs.locate_checked.Goals as goal
 
 pub front_place-requires : goal.front_place-requires
 front_place-requires c =

@@ -4,7 +4,7 @@ use Rattle.std.proofs.lemmas.Result.{err_from_is_err_and}
 use Rattle.control.specs.Views.{Whole, arrays_of}
 use Rattle.input_core.proofs.Checks.{established}
 use Rattle.input_core.proofs.Takes.{not_taken, begun, takes_all}
-use Rattle.input_core.proofs.input.Goals as goal
+use Rattle.input_core.proofs.input_checked.Goals as goal
 
 pub returns-in_err-check : goal.returns-in_err-check
 returns-in_err-check c =

@@ -2,7 +2,7 @@
 use Rattle.std.proofs.Common.{rules}
 use Rattle.read_core.proofs.Blocks.{block_counts}
 use Rattle.read_core.proofs.Readings.{reads_block}
-use Rattle.read_core.proofs.read.Goals as goal
+use Rattle.read_core.proofs.read_checked.Goals as goal
 
 pub read_message-answer-requires : goal.read_message-answer-requires
 read_message-answer-requires c =
