@@ -4,7 +4,6 @@ use Rattle.std.specs.Prelude.{◌≡◌, refl, Bool, true, false, cond, ◌||◌
 use Rattle.std.proofs.Common.{sym, ap, ◌∙◌, add-one, arith, ne_eqb, eq-eqb, le-leb, length-drop, drop_of_length-le, drop-cons, take_all}
 use Rattle.std.proofs.Math.Decide.{dec_le}
 use Rattle.std.proofs.lemmas.Bool.{lt-leb}
-use Rattle.script.specs.declared.Command.{Command}
 use Rattle.script.specs.Commands.{up_to, word, arguments, letters, of_one, of_two, of_four, of_five, of_six, of_seven, of_numbers, with_numbers}
 use Rattle.script.specs.CommandLaws.{prepend}
 use Rattle.script.specs.Reading.{few}
