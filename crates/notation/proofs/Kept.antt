@@ -1,6 +1,6 @@
 -- Laws that nothing here cites, kept since they stood.
 -- Assumes nothing.
-use Rattle.std.specs.Prelude.{◌≡◌, refl, Bool, true, false, List, [], ◌∷◌, ℕ, ◌<◌, length}
+use Rattle.std.specs.Prelude.{◌≡◌, refl, false, List, [], ◌∷◌, ℕ, ◌<◌, length}
 use Rattle.std.proofs.Common.{arith}
 use Rattle.notation.specs.Words.{is_digit}
 use Rattle.notation.specs.Hex.{bytes_word, is_hex_digit, hex_value}
