@@ -1,6 +1,7 @@
 -- Laws of what C is told: no group has more than 12 frames, so that a count is told as it is.
 -- Assumes nothing.
-use Rattle.std.specs.Prelude.{◌≡◌, refl, Bool, true, false, cond, ◌&&◌, not, Result, Ok, Err, List, map, ℕ, ◌+◌, ◌*◌, ◌≤◌, ◌<◌, ◌^◌, min, leb, ltb, eqb, ℤ, pos, length}
+use Rattle.std.specs.Prelude.{◌≡◌, refl, Bool, true, false, cond, ◌&&◌, not, Result, Ok, Err, List, map}
+use Rattle.std.specs.Prelude.{ℕ, ◌+◌, ◌*◌, ◌≤◌, ◌<◌, ◌^◌, min, leb, ltb, eqb, ℤ, pos, length}
 use Rattle.std.proofs.Common.{ap, ◌∙◌, arith, leb-true, eqb-true, SFits}
 use Rattle.std.specs.Int.{w32}
 use Rattle.codes.specs.Codes.{number_code}
