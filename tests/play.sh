@@ -1,7 +1,8 @@
 #!/bin/sh
 # play.sh PROGRAM GIVEN WANTED [FOLDER]: runs a proved program on each file *GIVEN of FOLDER (tests/vectors where none is named), and
-# compares what it prints with the file *WANTED beside it; the first file once more through a pipe that brings it in two pieces. The program
-# is target/bin/PROGRAM, which make builds, or else what rt left in its crate's out/.
+# compares what it prints with the file *WANTED beside it; the first file once more through a pipe that brings it in two pieces. A line
+# of FOLDER/sizes, 'COUNT NAME', plays COUNT bytes, all of them a letter, and compares with NAMEWANTED: the longest input and one byte more.
+# The program is target/bin/PROGRAM, which make builds, or else what rt left in its crate's out/.
 root=$(cd "$(dirname "$0")/.." && pwd)
 program=$1 given=$2 wanted=$3 folder=${4:-$root/tests/vectors}
 run=$root/target/bin/$program
@@ -29,6 +30,12 @@ for file in "$folder"/*"$given"; do
     "$run" <"$file" >"$printed"
     told $? "$file" ""
 done
+if [ -e "$folder/sizes" ]; then
+    while read -r count name; do
+        head -c "$count" /dev/zero | tr '\0' a | "$run" >"$printed"
+        told $? "$folder/$name$given" ", of $count bytes"
+    done <"$folder/sizes"
+fi
 if [ -n "$first" ]; then
     { head -c 7 "$first"; sleep 0.3; tail -c +8 "$first"; } | "$run" >"$printed"
     told $? "$first" ", in two pieces"
