@@ -71,3 +71,11 @@ Core false l records table send_pool receive_pool acks t out lengths a l' b out'
 Core true l records table send_pool receive_pool acks t out lengths a l' b out' lengths' =
     UpdateCore (updates_with l records acks (lent_lengths table send_pool receive_pool acks) send_pool (length out) (length lengths) t)
     l records acks out lengths a l' b out' lengths'
+
+-- ---- what neither touches, past the counts too: the settings, and the ready and waiting segments
+
+pub record FlushKeeps (l l' : Link) : Type 0 where
+  pub settings : l'.settings ≡ l.settings
+  pub ready : l'.ready ≡ l.ready
+  pub waiting : l'.waiting ≡ l.waiting
+  pub waiting_numbers : l'.waiting_numbers ≡ l.waiting_numbers

@@ -4,7 +4,7 @@
 
 pub mod parts;
 
-ghost use Rattle.flush_core.specs.Flushes.{Flushable, Wrote, Runs};
+ghost use Rattle.flush_core.specs.Flushes.{Flushable, Wrote, Runs, FlushKeeps};
 
 use control::{Arrival, Link};
 use parts::Plan;
@@ -29,7 +29,9 @@ fn flush_now(
     lengths: &mut [u16],
 ) -> Flushed
     requires { Flushable link.old records.old pool.now acks.now output.old lengths.old }
-    ensures { Wrote link.old records.old pool.now acks.now t output.old lengths.old result link.new records.new output.new lengths.new }
+    ensures writes { Wrote link.old records.old pool.now acks.now t output.old lengths.old result link.new records.new output.new
+        lengths.new }
+    ensures keeps { FlushKeeps link.old link.new }
 {
     let plan = Plan::new(link, t);
     let window = parts::window_of(link.settings, link.flight);
@@ -82,8 +84,9 @@ pub fn flush_checked(
     lengths: &mut [u16],
 ) -> Flushed
     requires { Flushable link.old records.old pool.now acks.now output.old lengths.old }
-    ensures { Runs paced link.old records.old pool.now acks.now t output.old lengths.old result link.new records.new output.new
+    ensures runs { Runs paced link.old records.old pool.now acks.now t output.old lengths.old result link.new records.new output.new
         lengths.new }
+    ensures keeps { FlushKeeps link.old link.new }
 {
     let step = parts::step_of(paced, link.clock, t, link.settings.interval);
     link.clock = step.clock;

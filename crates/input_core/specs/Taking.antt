@@ -48,3 +48,9 @@ put_by (Err q) l' records = record { words = l'.outstanding; changed = 0; record
 -- what the call leaves, by what the definition gives
 abbrev pub Takes : Outcome Took → Link → List ℕ → List ℕ → Count → Link → List Record → List ℕ → List ℕ → Type 0
 Takes o l pool acks r l' records pool' acks' = InputCore o l pool acks (accepted r) l' (put_by r l' records) pool' acks'
+
+-- what taking in does not touch, past the count too: the settings, the clock and the queued words
+pub record InputKeeps (l l' : Link) : Type 0 where
+  pub settings : l'.settings ≡ l.settings
+  pub clock : l'.clock ≡ l.clock
+  pub queued : l'.queued ≡ l.queued

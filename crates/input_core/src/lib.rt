@@ -6,7 +6,7 @@ ghost use Rattle.session.specs.Input.{input};
 ghost use Rattle.control.specs.Views.{arrays_of, Whole, state_of};
 ghost use Rattle.protocol.specs.Ranges.{mss};
 ghost use Rattle.congestion.specs.Congestions.{Growable};
-ghost use Rattle.input_core.specs.Taking.{Hearable, grown_from, Takes};
+ghost use Rattle.input_core.specs.Taking.{Hearable, grown_from, Takes, InputKeeps};
 
 use answers::Answer;
 use arriving::Incoming;
@@ -37,9 +37,10 @@ pub fn input_checked(
     datagram: &[u8],
 ) -> Answer<usize>
     requires { Hearable link.old records.old marks.now acks.old pool.old }
-    ensures { Takes (input (state_of link.old records.old acks.old) pool.old datagram.now) link.old pool.old acks.old
+    ensures takes { Takes (input (state_of link.old records.old acks.old) pool.old datagram.now) link.old pool.old acks.old
         result link.new records.new pool.new acks.new
         × Whole (arrays_of link.new) × (length records.new ≡ 32) }
+    ensures keeps { InputKeeps link.old link.new }
 {
     let settings = link.settings;
     let before = link.flight;

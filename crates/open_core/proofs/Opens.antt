@@ -89,8 +89,8 @@ module _ (c : Settings) (x : Arrays) where
   unfolding state_of opened pairs joined paired
   fresh_state records acks = refl
 
-  pub is_fresh_lem : IsFresh c (made c x)
-  is_fresh_lem = record { counts = counted; state = fresh_state }
+  pub is_fresh_lem : {l : Link} → l ≡ made c x → IsFresh c l
+  is_fresh_lem e = rw e (record { counts = counted; state = fresh_state })
 
 passed : (b : Bool) → not b ≡ false → b ≡ true
 passed true q = refl

@@ -3,6 +3,7 @@
 
 ghost use Rattle.promises.specs.Outcomes.{opens_with};
 ghost use Rattle.promises.specs.Cores.{OpenCore};
+ghost use Rattle.open_core.specs.Fresh.{OpenKeeps};
 
 use answers::Answer;
 use congestion::Congestion;
@@ -14,7 +15,8 @@ use timing::RoundTrip;
 // Opening checks 12, then 7. The peer's window is 128 then, the link timeout 200, the congestion window as at opening, and all else 0 or
 // unset; a refused opening leaves the block.
 pub fn open(link: &mut Link, new: Settings, lent: Lengths) -> Answer<()>
-    ensures { OpenCore (opens_with new lent) link.old result link.new }
+    ensures opens { OpenCore (opens_with new lent) link.old result link.new }
+    ensures keeps { OpenKeeps link.old link.new }
 {
     if !new.in_range() {
         return Err(Refusal::SettingOutOfRange);

@@ -45,3 +45,12 @@ ReadMessage (refused q) a m ready waiting numbers pool buffer answer r ready' wa
     NotRead q a ready waiting numbers buffer answer r ready' waiting' numbers' buffer'
 ReadMessage (done n) a m ready waiting numbers pool buffer answer r ready' waiting' numbers' buffer' =
     (answer ≡ Ok n) × Taken a m ready waiting numbers pool buffer r ready' waiting' numbers' buffer'
+
+-- what reading does not touch, past the counts too: all but the receiving half's numbers, and its ready and waiting segments
+pub record ReadKeeps (l l' : Link) : Type 0 where
+  pub settings : l'.settings ≡ l.settings
+  pub flight : l'.flight ≡ l.flight
+  pub clock : l'.clock ≡ l.clock
+  pub queued : l'.queued ≡ l.queued
+  pub outstanding : l'.outstanding ≡ l.outstanding
+  pub transmissions : l'.transmissions ≡ l.transmissions

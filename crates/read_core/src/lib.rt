@@ -12,7 +12,7 @@ ghost use Rattle.promises.specs.Cores.{ReadCore};
 ghost use Rattle.arriving.specs.Arrivals.{Same, Fits};
 ghost use Rattle.arriving.specs.Arrivals as arriving;
 ghost use Rattle.deliver.specs.Messages.{InSlots, InPool, fitting_of};
-ghost use Rattle.read_core.specs.Messages.{Readable, ReadMessage};
+ghost use Rattle.read_core.specs.Messages.{Readable, ReadKeeps, ReadMessage};
 ghost use Rattle.promises.specs.Promises.{place_of, LiesAt};
 ghost use Rattle.read_core.specs.Places.{front_outcome, PlaceIs};
 
@@ -47,8 +47,9 @@ fn read_message(half: &mut Incoming, mss: usize, pool: &[u8], buffer: &mut [u8])
 // Reading the message at the front: 9, then 7 for the buffer.
 pub fn read_checked(link: &mut Link, pool: &[u8], buffer: &mut [u8]) -> Answer<usize>
     requires { Readable link.old pool.now }
-    ensures { (records : List Record) (acks : List ℕ) → ReadCore (reading (state_of link.old records acks) pool.now (length buffer.old))
+    ensures reads { (records : List Record) (acks : List ℕ) → ReadCore (reading (state_of link.old records acks) pool.now (length buffer.old))
         link.old records acks buffer.old result link.new buffer.new }
+    ensures keeps { ReadKeeps link.old link.new }
 {
     let mss = link.settings.mss();
     let mut half = Incoming {

@@ -6,7 +6,7 @@ ghost use Rattle.timing.specs.declared.Record.{Record};
 ghost use Rattle.session.specs.Sending.{sending};
 ghost use Rattle.control.specs.Views.{state_of};
 ghost use Rattle.promises.specs.Cores.{SendCore};
-ghost use Rattle.send_core.specs.Sending.{Sendable};
+ghost use Rattle.send_core.specs.Sending.{Sendable, SendKeeps};
 
 use answers::Answer;
 use control::Link;
@@ -20,9 +20,10 @@ pub fn send_checked(
     message: &[u8],
 ) -> Answer<()>
     requires { (records : List Record) × Sendable link.old records marks.now pool.old }
-    ensures { (records : List Record) (acks : List ℕ) → Sendable link.old records marks.now pool.old
+    ensures sends { (records : List Record) (acks : List ℕ) → Sendable link.old records marks.now pool.old
         → SendCore (sending (state_of link.old records acks) pool.old message.now) link.old records acks pool.old
         result link.new pool.new }
+    ensures keeps { SendKeeps link.old link.new }
 {
     let mut outgoing = Outgoing {
         stream: link.settings.stream == 1,

@@ -5,4 +5,5 @@ use Rattle.codes.proofs.Told.{told, returned}
 use Rattle.ampferweg.proofs.ampferweg_flush.Goals as goal
 
 pub returns : goal.returns
-returns c = told count_code _ c.flush-written.result (returned c.count_code.type_inv ∙ c.count_code.ensures) c.flush-written.ensures
+returns c = told count_code _ c.flush-written.result (returned c.count_code.type_inv ∙ c.count_code.ensures)
+    c.flush-written.ensures.promise

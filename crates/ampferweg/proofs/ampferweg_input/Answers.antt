@@ -5,4 +5,4 @@ use Rattle.codes.proofs.Told.{told, returned}
 use Rattle.ampferweg.proofs.ampferweg_input.Goals as goal
 
 pub returns : goal.returns
-returns c = told answer_code _ c.input.result (returned c.answer_code.type_inv ∙ c.answer_code.ensures) c.input.ensures
+returns c = told answer_code _ c.input.result (returned c.answer_code.type_inv ∙ c.answer_code.ensures) c.input.ensures.promise

@@ -5,4 +5,5 @@ use Rattle.codes.proofs.Told.{told, returned}
 use Rattle.ampferweg.proofs.ampferweg_open.Goals as goal
 
 pub returns : goal.returns
-returns c = told answer_code _ c.open.result (returned c.answer_code.type_inv ∙ c.answer_code.ensures) (rw (← c.settings-new.ensures) c.open.ensures)
+returns c = told answer_code _ c.open.result (returned c.answer_code.type_inv ∙ c.answer_code.ensures)
+    (rw (← c.settings-new.ensures) c.open.ensures.promise)

@@ -5,4 +5,4 @@ use Rattle.codes.proofs.Told.{told, returned}
 use Rattle.ampferweg.proofs.ampferweg_send.Goals as goal
 
 pub returns : goal.returns
-returns c = told answer_code _ c.send.result (returned c.answer_code.type_inv ∙ c.answer_code.ensures) c.send.ensures
+returns c = told answer_code _ c.send.result (returned c.answer_code.type_inv ∙ c.answer_code.ensures) c.send.ensures.promise

@@ -20,8 +20,8 @@ after_losses-link-requires c =
     countable c.args.link.now (search rules) _ (search rules) _ _ _ _ c.requires _ _ _ _ _ _ c.window_of-window.ensures (search rules)
     c.number-flown.ensures _ _
 
-pub returns : goal.returns
-returns c =
+pub returns-clause-writes : goal.returns-clause-writes
+returns-clause-writes c =
     let h = c.args.link.now in
     runs h.settings h.flight h.arrival h.clock h.queued h.outstanding h.transmissions h.ready h.waiting h.waiting_numbers
     c.args.records.now c.args.acks.now c.args.t c.args.pool.now _ _ _ c.window_of-window.ensures _ _ _ _ _ _ _ _ _ _ _ c.new-plan.ensures

@@ -6,8 +6,8 @@ use Rattle.input_core.proofs.Checks.{established}
 use Rattle.input_core.proofs.Takes.{not_taken, begun, takes_all}
 use Rattle.input_core.proofs.input_checked.Goals as goal
 
-pub returns-in_err-check : goal.returns-in_err-check
-returns-in_err-check c =
+pub returns-in_err-check-clause-takes : goal.returns-in_err-check-clause-takes
+returns-in_err-check-clause-takes c =
     let a = c.args in
     let p = err_from_is_err_and c.from_residual.result c.from_residual.ensures.1 in (
       rw (p.1, p.2) (not_taken a.link.now a.records.now a.records.now a.acks.now a.pool.now a.datagram.now
@@ -43,8 +43,8 @@ grown-link-requires c =
     let whole : Whole (arrays_of a.link.now) = search rules in
     (established a.link.now a.records.now a.marks.now a.acks.now a.pool.now c.requires whole).growable_lem
 
-pub returns : goal.returns
-returns c =
+pub returns-clause-takes : goal.returns-clause-takes
+returns-clause-takes c =
     let a = c.args in
     let whole : Whole (arrays_of a.link.now) = search rules in
     let ok = established a.link.now a.records.now a.marks.now a.acks.now a.pool.now c.requires whole in

@@ -13,8 +13,8 @@ read_message-answer-requires c =
       rw c.mss-mss.ensures ok.inside,
     )
 
-pub returns : goal.returns
-returns c records acks =
+pub returns-clause-reads : goal.returns-clause-reads
+returns-clause-reads c records acks =
     let h = c.args.link.now in
     let half = c.read_message-answer.new.half in
     reads_block h.settings h.flight h.arrival h.clock h.queued h.outstanding h.transmissions h.ready h.waiting h.waiting_numbers

@@ -13,8 +13,8 @@ enqueue-answer-requires c =
     (established h.settings h.flight h.arrival h.clock (arrays_of h) c.requires.0 [] c.requires.1 whole)
     {stream = is_stream h.settings} refl c.mss.ensures whole _ refl
 
-pub returns : goal.returns
-returns c records acks ready =
+pub returns-clause-sends : goal.returns-clause-sends
+returns-clause-sends c records acks ready =
     let h = c.args.link.now in
     let whole : Whole (arrays_of h) = search rules in
     let half = c.enqueue-answer.new.self in

@@ -13,6 +13,6 @@ returns c =
     let e = c.min.ensures in
     let next = c.flush-answer.new.table in
     let many = c.flush-answer.auto.table in (
-      rw (front t c.args.lent _ whole e, fronted t c.args.lent _ whole e next many) c.flush-answer.ensures,
+      rw (front t c.args.lent _ whole e, fronted t c.args.lent _ whole e next many) c.flush-answer.ensures.promise,
       behind t c.args.lent _ whole e next many,
     )

@@ -10,4 +10,4 @@ pub returns : goal.returns
 returns c =
     let t = c.args.table in
     let whole : length t ≡ 128 = search (rules, length_mapped, c.well_formed.1.1.1.1.0) in
-    rw (front t c.args.lent _ whole c.min.ensures) c.open-answer.ensures
+    rw (front t c.args.lent _ whole c.min.ensures) c.open-answer.ensures.promise

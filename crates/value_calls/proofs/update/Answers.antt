@@ -13,6 +13,6 @@ returns c =
     let e = c.min.ensures in
     let next = c.update-answer.new.table in
     let many = c.update-answer.auto.table in (
-      rw (front t c.args.lent _ whole e, fronted t c.args.lent _ whole e next many) c.update-answer.ensures,
+      rw (front t c.args.lent _ whole e, fronted t c.args.lent _ whole e next many) c.update-answer.ensures.promise,
       behind t c.args.lent _ whole e next many,
     )
