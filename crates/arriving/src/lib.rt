@@ -42,7 +42,9 @@ fn append_first(list: &mut [u32; 128], n: usize, other: &[u32; 128], k: usize)
     requires { n + k ≤ 128 }
     ensures { Front 128 list.new (n + k) (take n list.old ++ take k other.now) }
 {
-    list[n..n + k].copy_from_slice(&other[..k]);
+    for i in 0..k {
+        list[n + i] = other[i];
+    }
 }
 
 // Whether a tell is wanted: it was, or 128 were ready and fewer are now.

@@ -7,6 +7,7 @@ ghost use Rattle.checking.specs.Verdicts.{Admitted};
 ghost use Rattle.block_check.specs.Lent.{lent_records};
 
 use answers::Answer;
+use checking::flights;
 use control::Link;
 use timing::Record;
 
@@ -25,4 +26,20 @@ pub fn check(
     let sound = checking::sound(link, send_marks, receive_marks);
     let fit = gathering::fit(table, &link.outstanding, link.settings, link.flight);
     checking::judged(long, sound & fit)
+}
+
+// The same of records that have been gathered from the lent table.
+pub fn check_gathered(
+    link: &Link,
+    long: bool,
+    records: &[Record; 32],
+    send_marks: &mut [u8; 128],
+    receive_marks: &mut [u8; 256],
+) -> Answer<()>
+    requires { (send_marks.old ≡ none_to_send) × (receive_marks.old ≡ none) }
+    ensures { Admitted long link.now records.now send_marks.new receive_marks.new result }
+{
+    let sound = checking::sound(link, send_marks, receive_marks);
+    let flown = flights::flight_fits(records, link.settings, link.flight);
+    checking::judged(long, sound & flown)
 }

@@ -7,6 +7,11 @@ ghost use Rattle.promises.specs.Outcomes.{shows};
 ghost use Rattle.promises.specs.Parts.{lent_lengths, parts_of, flush_parts_of};
 ghost use Rattle.promises.specs.Promises.{OpenPromise, SendPromise, InputPromise, FlushPromise, UpdatePromise, CheckPromise};
 ghost use Rattle.promises.specs.Promises.{ReadPromise, SizePromise, ShowsPart, place_of};
+ghost use Rattle.open_core.specs.Fresh.{OpenKeeps};
+ghost use Rattle.send_core.specs.Sending.{SendKeeps};
+ghost use Rattle.input_core.specs.Taking.{InputKeeps};
+ghost use Rattle.flush_core.specs.Flushes.{FlushKeeps};
+ghost use Rattle.read_core.specs.Messages.{ReadKeeps};
 ghost use Rattle.read_core.specs.Places.{PlaceIs};
 ghost use Rattle.calls.specs.Written.{WrittenOut};
 
@@ -38,10 +43,11 @@ pub fn open(
     table: &[Record],
     acks: &[u32],
 ) -> Answer<()>
-    ensures { OpenPromise new link.old
+    ensures promise { OpenPromise new link.old
         (parts_of send_pool.now receive_pool.now table.now acks.now)
         result link.new
         (parts_of send_pool.now receive_pool.now table.now acks.now) }
+    ensures keeps { OpenKeeps link.old link.new }
 {
     open_core::open(
         link,
@@ -59,10 +65,11 @@ pub fn send(
     acks: &[u32],
     message: &[u8],
 ) -> Answer<()>
-    ensures { SendPromise message.now link.old
+    ensures promise { SendPromise message.now link.old
         (parts_of send_pool.old receive_pool.now table.now acks.now)
         result link.new
         (parts_of send_pool.new receive_pool.now table.now acks.now) }
+    ensures keeps { SendKeeps link.old link.new }
 {
     let mut send_marks = [0; 128];
     let mut receive_marks = [0; 256];
@@ -81,16 +88,16 @@ pub fn input(
     acks: &mut [u32],
     datagram: &[u8],
 ) -> Answer<()>
-    ensures { InputPromise datagram.now link.old
+    ensures promise { InputPromise datagram.now link.old
         (parts_of send_pool.now receive_pool.old table.old acks.old)
         result link.new
         (parts_of send_pool.now receive_pool.new table.new acks.new) }
+    ensures keeps { InputKeeps link.old link.new }
 {
     let mut send_marks = [0; 128];
     let mut receive_marks = [0; 256];
     let lent = lent_lengths(send_pool, receive_pool, table, acks);
     let long = sizes::enough(link.settings, lent);
-    block_check::check(link, long, table, &mut send_marks, &mut receive_marks)?;
     let mut records = records::none();
     gathering::gather(
         table,
@@ -98,6 +105,7 @@ pub fn input(
         link.flight.outstanding,
         &mut records,
     );
+    block_check::check_gathered(link, long, &records, &mut send_marks, &mut receive_marks)?;
     let changed = input_core::input_checked(
         link,
         &mut records,
@@ -122,17 +130,17 @@ fn write(
     output: &mut [u8],
     lengths: &mut [u16],
 ) -> Answer<Option<usize>>
-    ensures { WrittenOut paced t link.old
+    ensures writes { WrittenOut paced t link.old
         (parts_of send_pool.now receive_pool.now table.old acks.now)
         (flush_parts_of output.old lengths.old) result link.new
         (parts_of send_pool.now receive_pool.now table.new acks.now)
         (flush_parts_of output.new lengths.new) }
+    ensures keeps { FlushKeeps link.old link.new }
 {
     let mut send_marks = [0; 128];
     let mut receive_marks = [0; 256];
     let lent = lent_lengths(send_pool, receive_pool, table, acks);
     let long = sizes::enough_to_flush(link.settings, lent, output.len(), lengths.len());
-    block_check::check(link, long, table, &mut send_marks, &mut receive_marks)?;
     let mut records = records::none();
     gathering::gather(
         table,
@@ -140,6 +148,7 @@ fn write(
         link.flight.outstanding,
         &mut records,
     );
+    block_check::check_gathered(link, long, &records, &mut send_marks, &mut receive_marks)?;
     let flushed = flush_core::flush_checked(
         link,
         &mut records,
@@ -166,11 +175,12 @@ pub fn flush(
     output: &mut [u8],
     lengths: &mut [u16],
 ) -> Answer<usize>
-    ensures { FlushPromise t link.old
+    ensures promise { FlushPromise t link.old
         (parts_of send_pool.now receive_pool.now table.old acks.now)
         (flush_parts_of output.old lengths.old) result link.new
         (parts_of send_pool.now receive_pool.now table.new acks.now)
         (flush_parts_of output.new lengths.new) }
+    ensures keeps { FlushKeeps link.old link.new }
 {
     match write(
         link,
@@ -199,11 +209,12 @@ pub fn update(
     output: &mut [u8],
     lengths: &mut [u16],
 ) -> Answer<Option<usize>>
-    ensures { UpdatePromise t link.old
+    ensures promise { UpdatePromise t link.old
         (parts_of send_pool.now receive_pool.now table.old acks.now)
         (flush_parts_of output.old lengths.old) result link.new
         (parts_of send_pool.now receive_pool.now table.new acks.now)
         (flush_parts_of output.new lengths.new) }
+    ensures keeps { FlushKeeps link.old link.new }
 {
     write(
         link,
@@ -234,7 +245,6 @@ pub fn check(
     let mut receive_marks = [0; 256];
     let lent = lent_lengths(send_pool, receive_pool, table, acks);
     let long = sizes::enough(link.settings, lent);
-    block_check::check(link, long, table, &mut send_marks, &mut receive_marks)?;
     let mut records = records::none();
     gathering::gather(
         table,
@@ -242,6 +252,7 @@ pub fn check(
         link.flight.outstanding,
         &mut records,
     );
+    block_check::check_gathered(link, long, &records, &mut send_marks, &mut receive_marks)?;
     Ok(check_core::next_update(link, &records, t))
 }
 
@@ -254,11 +265,12 @@ pub fn read(
     acks: &[u32],
     buffer: &mut [u8],
 ) -> Answer<usize>
-    ensures { ReadPromise link.old
+    ensures promise { ReadPromise link.old
         (parts_of send_pool.now receive_pool.now table.now acks.now)
         buffer.old result link.new
         (parts_of send_pool.now receive_pool.now table.now acks.now)
         buffer.new }
+    ensures keeps { ReadKeeps link.old link.new }
 {
     let mut send_marks = [0; 128];
     let mut receive_marks = [0; 256];

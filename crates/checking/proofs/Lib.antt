@@ -4,3 +4,4 @@ pub mod Joins
 pub mod Lines
 pub mod Halves
 pub mod Whole
+pub mod Kept

@@ -17,7 +17,7 @@ use Rattle.timing.specs.declared.Record.{Record}
 use Rattle.slots.specs.Slots.{once}
 use Rattle.session.specs.Valid.{all}
 use Rattle.marks.specs.Marks.{none_of, none_to_send, marked_all}
-use Rattle.checking.specs.Tests.{follows, neighbours, fits_after, least_after, least_after_all, send_word_fits, sent_few, send_slots_in, SendingFits}
+use Rattle.checking.specs.Tests.{follows, neighbours, fits_after, least_after, least_after_all, carried_after, send_word_fits, sent_few, send_slots_in, SendingFits}
 
 pub not-true : (b : Bool) → not b ≡ true → b ≡ false
 not-true true e = sym e
@@ -90,6 +90,33 @@ pub least_end : (mode una next : ℕ) (rs : List Record) (i least : ℕ) (goal :
     → goal ≡ least_after_all mode una next least (drop i rs) → goal ≡ Some least
 unfolding least_after_all
 least_end mode una next rs i least goal h inv = inv ∙ rw (drop_of_length-le rs {i = i} h)
+
+-- what passing over records gives behind what is carried
+unfoldable pub carried_all : ℕ → ℕ → ℕ → Option ℕ → List Record → Option ℕ
+carried_all mode una next None l = None
+carried_all mode una next (Some least) l = least_after_all mode una next least l
+
+pub carried_next : (mode una next : ℕ) (rs : List Record) (i : ℕ) (goal : Option ℕ) (d : Record) → i < length rs → (c k : Option ℕ)
+    → goal ≡ carried_all mode una next c (drop i rs) → k ≡ carried_after mode una next c (get_or rs i d)
+    → goal ≡ carried_all mode una next k (drop (i + 1) rs)
+unfolding carried_all
+carried_next mode una next rs i goal d h None k inv e = rw e inv
+carried_next mode una next rs i goal d h (Some least) k inv e =
+    rw e (go (fits_after mode una next least (get_or rs i d)) (here mode una next rs i least goal d h inv))
+  where
+    off : ℕ
+    off = minus (get_or rs i d).number una
+
+    go : (b : Bool) → goal ≡ cond b (least_after_all mode una next (off + 1) (drop (i + 1) rs)) None
+        → goal ≡ carried_all mode una next (cond b (Some (off + 1)) None) (drop (i + 1) rs)
+    go true e = e
+    go false e = e
+
+pub carried_end : (mode una next : ℕ) (rs : List Record) (i : ℕ) (goal : Option ℕ) → length rs ≤ i → (c : Option ℕ)
+    → goal ≡ carried_all mode una next c (drop i rs) → goal ≡ c
+unfolding carried_all
+carried_end mode una next rs i goal h None inv = inv
+carried_end mode una next rs i goal h (Some least) inv = least_end mode una next rs i least goal h inv
 
 -- the records looked at are those of the count
 pub looked_all : (rs : List Record) (n m : ℕ) → length rs ≡ 32 → m ≡ min n 32 → take m rs ≡ take n rs

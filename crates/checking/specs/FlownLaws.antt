@@ -1,10 +1,11 @@
 -- One pass over the records of the outstanding segments says what their tests say.
 -- Assumes nothing.
-use Rattle.std.specs.Prelude.{◌≡◌, Bool, cond, ◌&&◌, ◌||◌, ℕ, ◌+◌, ◌<◌, leb, None}
+use Rattle.std.specs.Prelude.{◌≡◌, Bool, cond, ◌&&◌, ◌||◌, ℕ, ◌+◌, ◌<◌, leb, Some, None, is_some}
 use Rattle.std.proofs.Math.Path.{refl}
 use Rattle.std.proofs.Common.{sym, ap, ◌∙◌}
 use Rattle.std.proofs.Math.Bool.{true, false, and-false, and-true}
 use Rattle.std.specs.declared.option.Option.{Option}
+use Rattle.std.specs.List.{fold}
 use mathlib.Core.List.{List, [], ◌∷◌}
 use native.Mathlib.Omega.{arith}
 use borrow.Author.Tests.{lt-ltb}
@@ -12,7 +13,7 @@ use Rattle.std.proofs.Math.Dec.{ltb, eqb}
 use Rattle.protocol.specs.Protocol.{send_window}
 use Rattle.protocol.specs.Serial.{minus}
 use Rattle.timing.specs.declared.Record.{Record}
-use Rattle.checking.specs.Tests.{record_fits, records_fit, first_of, flight_fits, least_after_all, flown_by}
+use Rattle.checking.specs.Tests.{record_fits, records_fit, first_of, flight_fits, fits_after, least_after_all, carried_after, flown_by}
 
 module _ (mode una next : ℕ) where
   abbrev passed : ℕ → List Record → Option ℕ
@@ -26,6 +27,51 @@ module _ (mode una next : ℕ) where
 
   abbrev near : Bool
   near = leb limit send_window
+
+  -- behind one that does not fit none does
+  stays_refused : (l : List Record) → fold (carried_after mode una next) None l ≡ None
+  stays_refused [] = refl
+  stays_refused (r ∷ l) = stays_refused l
+
+  -- what is carried record by record is what passing over all says
+  pub carried_by_one : (l : List Record) (least : ℕ) → fold (carried_after mode una next) (Some least) l ≡ passed least l
+  unfolding least_after_all
+  carried_by_one [] least = refl
+  carried_by_one (r ∷ l) least = go (fits_after mode una next least r) (carried_by_one l (off r + 1))
+    where
+      go : (b : Bool) → fold (carried_after mode una next) (Some (off r + 1)) l ≡ passed (off r + 1) l
+          → fold (carried_after mode una next) (cond b (Some (off r + 1)) None) l ≡ cond b (passed (off r + 1) l) None
+      go true e = e
+      go false e = stays_refused l
+
+  -- what is carried over l
+  record Carried (l : List Record) (least : ℕ) : Type 0 where
+    pub some : (k : ℕ) → passed least l ≡ Some k → 0 < k
+    pub fits : is_some (passed least l) ≡ records_fit mode una limit least l
+
+  carried_some : (l : List Record) (least k : ℕ) → 0 < least → passed least l ≡ Some k → 0 < k
+  unfolding least_after_all
+  carried_some [] least k h e = let q : k ≡ least = cc in rw q h
+  carried_some (r ∷ l) least k h e = go (fits_after mode una next least r) (carried_some l (off r + 1) k (omega arith)) e
+    where
+      go : (b : Bool) → (passed (off r + 1) l ≡ Some k → 0 < k) → cond b (passed (off r + 1) l) None ≡ Some k → 0 < k
+      go true f e = f e
+      go false f e = cc
+
+  carried_fits : (l : List Record) (least : ℕ) → 0 < least → is_some (passed least l) ≡ records_fit mode una limit least l
+  unfolding least_after_all records_fit
+  carried_fits [] least h = refl
+  carried_fits (r ∷ l) least h = rw (lt-ltb 0 least h) (go (leb least (off r) && ltb (off r) limit && record_fits mode r)
+      (carried_fits l (off r + 1) (omega arith)))
+    where
+      go : (b : Bool) → is_some (passed (off r + 1) l) ≡ records_fit mode una limit (off r + 1) l
+          → is_some (cond b (passed (off r + 1) l) None) ≡ (b && records_fit mode una limit (off r + 1) l)
+      go true e = e
+      go false e = refl
+
+  -- behind the first
+  carried_over : (l : List Record) (least : ℕ) → 0 < least → Carried l least
+  carried_over l least h = record { some = λ k e. carried_some l least k h e; fits = carried_fits l least h }
 
   -- behind the first
   carried : (l : List Record) (least : ℕ) → 0 < least → flown_by una next (passed least l) ≡ (near && records_fit mode una limit least l)

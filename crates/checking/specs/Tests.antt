@@ -92,6 +92,11 @@ least_after_all mode una next least [] = Some least
 least_after_all mode una next least (r ∷ l) =
     cond (fits_after mode una next least r) (least_after_all mode una next (minus r.number una + 1) l) None
 
+-- past one record more: none, from one that does not fit on
+abbrev pub carried_after : ℕ → ℕ → ℕ → Option ℕ → Record → Option ℕ
+carried_after mode una next None r = None
+carried_after mode una next (Some least) r = least_after mode una next least r
+
 -- what is carried in the end tells whether all fit
 abbrev pub flown_by : ℕ → ℕ → Option ℕ → Bool
 flown_by una next None = false

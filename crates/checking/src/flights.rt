@@ -1,7 +1,7 @@
 // The records of the outstanding segments, with their numbers, in one pass: what is carried from record to record is the least offset
 // from snd_una that the next number may have.
 ghost use Rattle.std.specs.Prelude.{◌≡◌, take, Some};
-ghost use Rattle.checking.specs.Tests.{record_fits, flight_fits, least_after, flown_by};
+ghost use Rattle.checking.specs.Tests.{record_fits, flight_fits, least_after, carried_after, flown_by};
 
 use crate::numbers::timeout_fits;
 use control::Flight;
@@ -28,10 +28,25 @@ pub fn next_least(least: usize, found: Record, settings: Settings, flight: Fligh
     fits.then_some(far + 1)
 }
 
-// What the pass says: snd_una and snd_nxt are at most 32 apart, and with no record they are the same.
-pub fn flown(least: usize, flight: Flight) -> bool
-    ensures { result ≡ flown_by flight.una flight.next (Some least) }
+// What is carried past one record more: nothing, from one that does not fit on.
+pub fn carry(
+    carried: Option<usize>,
+    found: Record,
+    settings: Settings,
+    flight: Flight,
+) -> Option<usize>
+    ensures { result ≡ carried_after settings.mode flight.una flight.next carried found }
 {
+    next_least(carried?, found, settings, flight)
+}
+
+// What the pass says: all fit, snd_una and snd_nxt are at most 32 apart, and with no record they are the same.
+pub fn flown(carried: Option<usize>, flight: Flight) -> bool
+    ensures { result ≡ flown_by flight.una flight.next carried }
+{
+    let Some(least) = carried else {
+        return false;
+    };
     let limit = serial::difference(flight.next, flight.una);
     (limit <= Protocol::SEND_WINDOW) & ((0 < least) | (flight.next == flight.una))
 }
@@ -41,12 +56,9 @@ pub fn flight_fits(records: &[Record; 32], settings: Settings, flight: Flight) -
     ensures { result ≡ flight_fits settings.mode flight.una flight.next
         (take flight.outstanding records.now) }
 {
-    let mut least = 0;
+    let mut carried = Some(0);
     for record in &records[..flight.outstanding.min(32)] {
-        let Some(next) = next_least(least, *record, settings, flight) else {
-            return false;
-        };
-        least = next;
+        carried = carry(carried, *record, settings, flight);
     }
-    flown(least, flight)
+    flown(carried, flight)
 }

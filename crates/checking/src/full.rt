@@ -21,7 +21,7 @@ pub fn mark_held(ready: &[u32], waiting: &[u32], marks: &mut [u8; 256]) -> bool
     requires { (length ready.now ≤ 128) × (length waiting.now ≤ 128) × (marks.old ≡ none) }
     ensures { HeldOnce ready.now waiting.now marks.new result }
 {
-    let full = ready.len() + waiting.len() == 256;
+    let full = (ready.len() == 128) & (waiting.len() == 128);
     if full && in_line(ready, 0) & in_line(waiting, 128) {
         *marks = [1; 256];
         return true;

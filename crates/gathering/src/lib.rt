@@ -50,15 +50,12 @@ pub fn fit(table: &[Record], words: &[u32; 32], settings: Settings, flight: Flig
     ensures { result ≡ flight_fits settings.mode flight.una flight.next (take flight.outstanding
         (padded (gathered (take send_slots table.now) (slots_in words.now flight.outstanding)))) }
 {
-    let mut least = 0;
+    let mut carried = Some(0);
     for word in &words[..flight.outstanding.min(32)] {
         let found = records::read(table, reach(*word));
-        let Some(next) = flights::next_least(least, found, settings, flight) else {
-            return false;
-        };
-        least = next;
+        carried = flights::carry(carried, found, settings, flight);
     }
-    flights::flown(least, flight)
+    flights::flown(carried, flight)
 }
 
 // Each record is stored at the slot of its word, in their order; no other record of the table changes.

@@ -3,3 +3,4 @@ pub mod Writes
 pub mod Searches
 pub mod Advances
 pub mod AcknowledgingLaws
+pub mod Kept

@@ -16,25 +16,28 @@ pub fn mark<const S: usize>(marks: &mut [u8; S], words: &[u32]) -> bool
     requires { all_below S (slots_of (map unpack words.now)) ≡ true }
     ensures { Marks S marks.old (slots_of (map unpack words.now)) marks.new result }
 {
-    let mut once = true;
+    let mut twice = 0;
     for word in words {
         let held = Held::from(*word);
         let mark = &mut marks[usize::from(held.slot)];
-        once = once & (*mark == 0);
+        twice |= *mark;
         *mark = 1;
     }
-    once
+    twice == 0
 }
 
-// The first slot from `from` on that is not marked; there is one.
+// The first slot from `from` on that is not marked; there is one. It is often `from`, which is looked at first: the compiler makes a call
+// of the loop.
 pub fn free_from<const S: usize>(marks: &[u8; S], from: usize) -> usize
     requires { (S ≤ 256) × (next_free marks.now from < S) }
     ensures { result ≡ next_free marks.now from }
 {
-    for slot in from..S {
-        if marks[slot] == 0 {
-            return slot;
-        }
+    if marks[from] == 0 {
+        return from;
     }
-    S
+    let mut slot = from;
+    while marks[slot] != 0 {
+        slot += 1;
+    }
+    slot
 }

@@ -83,30 +83,26 @@ filled_next start s ns out₀ lens₀ out lens next d from at p n v f w h en ev 
     }
 
 -- what is lent as a part, and comes back as ys, is stored
-mid_stored : (a k : ℕ) (xs ys : List ℕ) → length ys ≡ k → a + k ≤ length xs → put_mid a k xs ys ≡ sets xs a ys
+pub mid_stored : (a k : ℕ) (xs ys : List ℕ) → length ys ≡ k → a + k ≤ length xs → put_mid a k xs ys ≡ sets xs a ys
 mid_stored a k xs ys e h = sym (sets-eq ys xs a (rw e h) ∙ rw (e, append_assoc, ← drop-drop))
 
 -- a head and a shard, stored one behind the other
 pub data_stored :
-    (seq at : ℕ) (d o₀ o₁ o₂ o₃ ys : List ℕ) →
-    at + 8 + length d ≤ length o₀ →
+    (seq at n : ℕ) (d o₀ o₁ o₂ o₃ o₄ : List ℕ) →
+    length d ≡ n →
     o₁ ≡ sets o₀ at (bytes_of 4 seq) →
     o₂ ≡ sets o₁ (at + 4) (bytes_of 2 241) →
-    o₃ ≡ sets o₂ (at + 6) (bytes_of 2 (length d + 2)) →
-    ys ≡ d →
-    put_mid (at + 8) (at + 8 + length d - (at + 8)) o₃ ys ≡ sets o₀ at (frame seq 241 (shard d))
+    o₃ ≡ sets o₂ (at + 6) (bytes_of 2 (n + 2)) →
+    o₄ ≡ sets o₃ (at + 8) d →
+    o₄ ≡ sets o₀ at (frame seq 241 (shard d))
 unfolding frame shard
-data_stored seq at d o₀ o₁ o₂ o₃ ys h e₁ e₂ e₃ e₄ =
+data_stored seq at n d o₀ o₁ o₂ o₃ o₄ l e₁ e₂ e₃ e₄ =
     let p : at + 4 + 2 ≡ at + 6 = omega arith in
     let q : at + 6 + 2 ≡ at + 8 = omega arith in
-    let l : length o₃ ≡ length o₀ =
-    ap length e₃ ∙ length-sets o₂ (at + 6) (bytes_of 2 (length d + 2))
-    ∙ ap length e₂ ∙ length-sets o₁ (at + 4) (bytes_of 2 241) ∙ ap length e₁ ∙ length-sets o₀ at (bytes_of 4 seq) in
-    mid_stored (at + 8) (at + 8 + length d - (at + 8)) o₃ ys (ap length e₄ ∙ omega arith) (omega arith)
-    ∙ ap (sets o₃ (at + 8)) e₄
-    ∙ ap (λ (o : List ℕ). sets o (at + 8) d) (e₃ ∙ ap (λ (o : List ℕ). sets o (at + 6) (bytes_of 2 (length d + 2)))
+    e₄
+    ∙ ap (λ (o : List ℕ). sets o (at + 8) d) (e₃ ∙ ap (λ (o : List ℕ). sets o (at + 6) (bytes_of 2 (n + 2)))
     (e₂ ∙ ap (λ (o : List ℕ). sets o (at + 4) (bytes_of 2 241)) e₁))
-    ∙ sym (simp (sets_append, length_bytes_of) (rw (p, q)))
+    ∙ sym (rw l (simp (sets_append, length_bytes_of) (rw (p, q))))
 
 pub parity_stored : (seq at : ℕ) (c o₀ o₁ o₂ o₃ : List ℕ) → o₁ ≡ sets o₀ at (bytes_of 4 seq) → o₂ ≡ sets o₁ (at + 4) (bytes_of 2 242)
     → o₃ ≡ sets o₂ (at + 6) c → o₃ ≡ sets o₀ at (frame seq 242 c)

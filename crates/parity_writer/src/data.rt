@@ -18,8 +18,7 @@ fn put_data(out: &mut [u8], at: usize, sequence: u32, datagram: &[u8])
     sequence.put(out, at);
     Frames::DATA.put(out, at + 4);
     ((n + 2) as u16).put(out, at + 6);
-    let from = at + Frames::HEADER;
-    out[from..from + n].copy_from_slice(datagram);
+    pools::copy_part(datagram, 0, n, out, at + Frames::HEADER);
 }
 
 // All data frames, and the place behind them.

@@ -10,5 +10,7 @@ pub fn copy_part(src: &[u8], from: usize, len: usize, out: &mut [u8], at: usize)
     requires { (from + len ≤ length src.now) × (at + len ≤ length out.old) }
     ensures { out.new ≡ sets out.old at (part src.now from len) }
 {
-    out[at..at + len].copy_from_slice(&src[from..from + len]);
+    for i in 0..len {
+        out[at + i] = src[from + i];
+    }
 }

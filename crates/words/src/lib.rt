@@ -20,7 +20,9 @@ pub fn drop_first<const N: usize>(list: &mut [u32; N], n: usize, k: usize)
     requires { (n ≤ N) × (k ≤ n) }
     ensures { Front N list.new (n - k) (drop k (take n list.old)) }
 {
-    list.copy_within(k..n, 0);
+    for i in 0..n - k {
+        list[i] = list[k + i];
+    }
 }
 
 // A word goes in at index i of n.
@@ -29,8 +31,13 @@ pub fn insert_at<const N: usize>(list: &mut [u32; N], n: usize, i: usize, word: 
     ensures { Front N list.new (n + 1)
         (take i (take n list.old) ++ (word ∷ drop i (take n list.old))) }
 {
-    list.copy_within(i..n, i + 1);
-    list[i] = word;
+    let mut carried = word;
+    for j in i..n {
+        let next = list[j];
+        list[j] = carried;
+        carried = next;
+    }
+    list[n] = carried;
 }
 
 // Where a number with this offset from base stands, or else where one goes in: at the first whose offset is not below it.

@@ -5,8 +5,8 @@ use Rattle.block_check.specs.Lent.{lent_records}
 use Rattle.calls.proofs.Checks.{long_of, readable, unread, was_read}
 use Rattle.calls.proofs.read.Goals as goal
 
-pub returns-in_err-check : goal.returns-in_err-check
-returns-in_err-check c =
+pub returns-in_err-check-clause-promise : goal.returns-in_err-check-clause-promise
+returns-in_err-check-clause-promise c =
     let h = c.args.link.now in
     let p = parts_of c.args.send_pool.now c.args.receive_pool.now c.args.table.now c.args.acks.now in
     let q = err_from_is_err_and c.from_residual.result c.from_residual.ensures.1 in
@@ -20,10 +20,11 @@ read_checked-requires c =
     readable h p c.enough-long.result (long_of h p _ _ c.enough-long.ensures c.lent_lengths-lent.ensures)
     c.check.new.send_marks c.check.new.receive_marks c.check.result c.check.ensures c.in_ok-check.was
 
-pub returns : goal.returns
-returns c =
+pub returns-clause-promise : goal.returns-clause-promise
+returns-clause-promise c =
     let h = c.args.link.now in
     let p = parts_of c.args.send_pool.now c.args.receive_pool.now c.args.table.now c.args.acks.now in
     was_read h p c.enough-long.result (long_of h p _ _ c.enough-long.ensures c.lent_lengths-lent.ensures)
     c.check.new.send_marks c.check.new.receive_marks c.check.result c.check.ensures c.in_ok-check.was
-    c.args.buffer.now c.read_checked.result c.read_checked.new.link c.read_checked.new.buffer (c.read_checked.ensures (lent_records h p.table) p.acks)
+    c.args.buffer.now c.read_checked.result c.read_checked.new.link c.read_checked.new.buffer
+    (c.read_checked.ensures.reads (lent_records h p.table) p.acks)

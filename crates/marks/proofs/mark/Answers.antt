@@ -1,6 +1,7 @@
 -- `mark`: the words before the index are marked.
 use Rattle.std.proofs.Common.{ap, ◌∙◌}
 use Rattle.lists.specs.declared.Held.{Held}
+use Rattle.marks.specs.MarkLaws.{or_none}
 use Rattle.marks.proofs.Turns.{marking_next, marking_end, low_at}
 use Rattle.marks.proofs.mark.Goals as goal
 
@@ -11,7 +12,7 @@ bounds-marks-from g c =
 
 pub loop-word-preserved : goal.loop-word-preserved
 loop-word-preserved g c =
-    marking_next c.loop-word.invariant _ (c.from.ensures ∙ ap (λ (h : Held). h.slot) c.from-held.ensures) c.loop-word-test.true
+    rw or_none (marking_next c.loop-word.invariant _ (c.from.ensures ∙ ap (λ (h : Held). h.slot) c.from-held.ensures) c.loop-word-test.true)
 
 pub returns : goal.returns
 returns g c = marking_end c.loop-word.invariant c.loop-word-test.false
