@@ -1,7 +1,8 @@
 // Numbers and bytes as text: numbers in decimal, bytes in hex of two digits each. `put` writes them into lent output, and
-// `read` reads them from a word.
+// `read` reads them from a word. `input` fills lent room with what a program is given.
 #![tactic(auto)]
 
+pub mod input;
 pub mod put;
 pub mod read;
 

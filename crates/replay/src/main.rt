@@ -5,9 +5,10 @@ ghost use Rattle.std.specs.Prelude.{◌≡◌, ◌+◌, ◌≤◌, length, drop}
 ghost use Rattle.script.specs.Commands.{first_line};
 
 use bench::Bench;
+use notation::input::read_full;
 use script::words::split_before;
 use std::io;
-use std::io::{Print, Read};
+use std::io::Print;
 
 // The lent parts: 128 and 256 slots of 232 bytes, and 256 pairs.
 const SEND_POOL: usize = 29696;
@@ -86,13 +87,11 @@ fn run(rt: &impl Print, script: &[u8]) -> io::Result<()>
 
 // Reads a script into `room`, which has one byte more than the longest script, and plays it.
 fn start(rt: &HostRuntime, room: &mut [u8]) -> io::Result<()> {
-    let mut input = rt.stdin().take(script::SCRIPT_MOST as u64 + 1);
-    let mut rest = &mut *room;
-    let n = io::copy(&mut input, &mut rest)? as usize;
+    let n = read_full(&mut rt.stdin(), room)?;
     if script::SCRIPT_MOST < n {
         return rt.write_all(b"too long\n");
     }
-    run(rt, notation::front(room, n))
+    run(rt, &room[..n])
 }
 
 fn start_in(rt: &HostRuntime, room: &mut [u8; script::SCRIPT_MOST + 1]) -> io::Result<()> {
