@@ -80,6 +80,18 @@ pub segment_parts : (h : Header) → segment_line h
 unfolding segment_line row
 segment_parts h = simp append_assoc
 
+-- the line up to the window, and behind it
+pub segment_halves : (h : Header) → segment_line h
+    ≡ spaced (h.conv ∷ h.cmd ∷ h.frg ∷ h.wnd ∷ []) ++ spaced (h.ts ∷ h.sn ∷ h.una ∷ []) ++ field h.len newline
+unfolding segment_line row
+segment_halves h = simp append_assoc
+
+pub length_front : (h : Header) → FieldsFit h → length (spaced (h.conv ∷ h.cmd ∷ h.frg ∷ h.wnd ∷ [])) ≤ 25
+length_front h f = let w = widths h f in simp length-append (omega arith)
+
+pub length_back : (h : Header) → FieldsFit h → length (spaced (h.ts ∷ h.sn ∷ h.una ∷ []) ++ field h.len newline) ≤ 44
+length_back h f = let w = widths h f in simp length-append (omega arith)
+
 pub length_segment : (h : Header) → FieldsFit h → length (segment_line h) ≤ 80
 unfolding segment_line row
 length_segment h f = let w = widths h f in simp length-append (omega arith)

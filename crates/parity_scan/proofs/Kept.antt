@@ -1,16 +1,17 @@
 -- Laws that nothing here cites, kept since they stood.
 -- Assumes nothing.
-use Rattle.std.specs.Prelude.{◌≡◌, refl, true, false, Result, Ok, Err, List, [], ◌∷◌, ℕ, zero, suc, ◌+◌, ◌*◌, ◌≤◌, ◌<◌, length, get_or, take, drop, replicate}
+use Rattle.std.specs.Prelude.{◌≡◌, refl, true, false, None, Result, Ok, Err, List, [], ◌∷◌, ℕ, zero, suc, ◌+◌, ◌*◌, ◌≤◌, ◌<◌, length, get_or, take, drop, replicate}
 use Rattle.std.proofs.Common.{sym, ap, ap₂, ◌∙◌, subst, arith, get_or-take}
 use Rattle.wire.specs.LittleEndian.{number_at}
 use Rattle.wire.specs.LittleEndianLaws.{number_at_drop}
 use Rattle.frames.specs.declared.Refusal.{Refusal}
 use Rattle.frames.specs.declared.Refusal.TheVariants.{NotAGroup}
-use Rattle.frames.specs.Lists.{parts, every}
+use Rattle.frames.specs.Lists.{parts, add_up, every}
 use Rattle.frames.specs.Reading.{group_of, frame_ok, first_group}
+use Rattle.frames.specs.PartLaws.{lies}
 use Rattle.parity_scan.specs.declared.scan.Scanned.{Scanned}
-use Rattle.parity_scan.specs.Held.{Held, at_in, size_in, Gathered, Scans}
-use Rattle.parity_scan.specs.ScanLaws.{Seen}
+use Rattle.parity_scan.specs.Held.{Held, at_in, size_in, shard_in, Gathered, Scans}
+use Rattle.parity_scan.specs.ScanLaws.{Seen, nonempty, none_in, seen_all}
 
 pub number_at_take : (j n : ℕ) (l : List ℕ) (i : ℕ) → i + j ≤ n → number_at j (take n l) i ≡ number_at j l i
 unfolding number_at
@@ -47,3 +48,36 @@ pub zeros : (n p : ℕ) → ◌≡◌ {A = ℕ} (get_or (replicate n 0) p 0) 0
 zeros zero p = refl
 zeros (suc n) zero = refl
 zeros (suc n) (suc p) = zeros n p
+
+-- ---- nothing is held
+
+pub record Empty (h : Held) : Type 0 where
+  pub places : (p : ℕ) → at_in h p ≡ 0
+  pub sizes : (p : ℕ) → size_in h p ≡ 0
+
+pub empty_held : Empty (replicate 12 None)
+empty_held = record { places = λ p. rw (none_in 12 p); sizes = λ p. rw (none_in 12 p) }
+
+module _ (s ns : List ℕ) (k mtu : ℕ) (h : Held) (e : Empty h) (l : length h ≡ 12) where
+  pub seen_empty : (g : ℕ) → Seen s ns k mtu g h 0 0
+  unfolding nonempty shard_in add_up
+  seen_empty g = record {
+    within = omega arith;
+    place = refl;
+    checked = refl;
+    inside = record { inside = λ p. omega (arith, e.places p, e.sizes p) };
+    places = l;
+    shards = λ p. rw (e.sizes p) refl;
+  }
+
+-- no frames
+pub scan_none : (s ns : List ℕ) (k mtu : ℕ) (h : Held) → Empty h → length h ≡ 12 → length ns ≡ 0
+    → Scans s ns k mtu (first_group k (parts s ns)) (Ok (record { group = 0; held = h }))
+unfolding first_group parts
+scan_none s [] k mtu h e l z = seen_all s [] k mtu 0 h 0 0 (seen_empty s [] k mtu h e l 0) (omega arith)
+scan_none s (n ∷ ns) k mtu h e l z = absurd (omega arith)
+
+-- a frame lies within the packed frames
+pub seen_room : (s ns : List ℕ) (k mtu g : ℕ) (h : Held) (at i n : ℕ) → Seen s ns k mtu g h at i → add_up ns ≤ length s → i < length ns
+    → n ≡ get_or ns i 0 → at + n ≤ length s
+seen_room s ns k mtu g h at i n seen whole more en = (lies s ns i at n whole more seen.place en).within

@@ -53,7 +53,7 @@ drop_take (suc m) zero (x ∷ l) = let e : 0 - suc m ≡ 0 = omega arith in sym 
 drop_take (suc m) (suc n) [] = sym (take-nil (suc n - suc m))
 drop_take (suc m) (suc n) (x ∷ l) = let e : n - m ≡ suc n - suc m = omega arith in drop_take m n l ∙ ap (λ (q : ℕ). take q (drop m l)) e
 
-pub nonempty : List ℕ → List ℕ → List ℕ
+unfoldable pub nonempty : List ℕ → List ℕ → List ℕ
 nonempty a b = cond (ltb 0 (length a)) a b
 
 pub every_cons : (t : List ℕ → Bool) (fs : List (List ℕ)) (i : ℕ) → i < length fs → t (get_or fs i []) ≡ true
@@ -78,7 +78,7 @@ pub record Seen (s ns : List ℕ) (k mtu g : ℕ) (h : Held) (at i : ℕ) : Type
 abbrev none : Option Span
 none = None
 
-none_in : (n p : ℕ) → slice_index_or (replicate n none) p none ≡ none
+pub none_in : (n p : ℕ) → slice_index_or (replicate n none) p none ≡ none
 none_in zero p = refl
 none_in (suc n) zero = refl
 none_in (suc n) (suc p) = none_in n p

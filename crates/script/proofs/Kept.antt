@@ -1,10 +1,12 @@
 -- Laws that nothing here cites, kept since they stood.
 -- Assumes nothing.
 use Rattle.std.specs.Prelude.{◌≡◌, refl, Bool, true, false, cond, ◌||◌, Option, Some, None, List, [], ◌∷◌, ℕ, suc, ◌+◌, ◌*◌, ◌-◌, ◌≤◌, ◌<◌, leb, eqb, length, get_or, take, drop}
-use Rattle.std.proofs.Common.{sym, ap, ◌∙◌, add-one, arith, ne_eqb, eq-eqb, le-leb, length-drop, drop_of_length-le, drop-cons, take_all}
+use Rattle.std.proofs.Common.{sym, ap, ◌∙◌, inl, inr, add-one, arith, ne_eqb, eq-eqb, le-leb, length-drop, length-take-le, drop_of_length-le, drop-cons, take_all}
+use Rattle.std.proofs.Math.Bool.{or-true}
 use Rattle.std.proofs.Math.Decide.{dec_le}
 use Rattle.std.proofs.lemmas.Bool.{lt-leb}
-use Rattle.script.specs.Commands.{up_to, word, arguments, letters, of_one, of_two, of_four, of_five, of_six, of_seven, of_numbers, with_numbers}
+use types.Run.{OneOf}
+use Rattle.script.specs.Commands.{is_one_of, up_to, word, arguments, letters, of_one, of_two, of_four, of_five, of_six, of_seven, of_numbers, with_numbers}
 use Rattle.script.specs.CommandLaws.{prepend}
 use Rattle.script.specs.Reading.{few}
 
@@ -55,6 +57,17 @@ arguments_end line here h = rw (drop_of_length-le line h)
 pub prepend_none : (o : Option (List ℕ)) → prepend [] o ≡ o
 prepend_none None = refl
 prepend_none (Some ms) = refl
+
+-- ---- one of some numbers, as the arms of a match test it
+
+pub one_of : (k : ℕ) (ks : List ℕ) (n : ℕ) → OneOf (k ∷ ks) n → is_one_of n (k ∷ ks) ≡ true
+one_of k [] n e = rw (eq-eqb n k e)
+one_of k (m ∷ ks) n (inl e) = rw (eq-eqb n k e)
+one_of k (m ∷ ks) n (inr h) = rw (one_of m ks n h, or-true)
+
+pub none_of : (k : ℕ) (ks : List ℕ) (n : ℕ) → (OneOf (k ∷ ks) n → ⊥) → is_one_of n (k ∷ ks) ≡ false
+none_of k [] n d = rw (ne_eqb n k d)
+none_of k (m ∷ ks) n d = rw (ne_eqb n k (λ e. d (inl e)), none_of m ks n (λ h. d (inr h)))
 
 -- four tests joined from the left, and as `is_one_of` joins them
 pub or_four : (a b c d : Bool) → (((a || b) || c) || d) ≡ (a || (b || (c || (d || false))))
@@ -115,16 +128,25 @@ module _ (name : ℕ) where
   seven_numbers (a ∷ b ∷ c ∷ d ∷ e ∷ f ∷ []) h = absurd (omega arith)
   seven_numbers (a ∷ b ∷ c ∷ d ∷ e ∷ f ∷ g ∷ l) h = refl
 
-  no_command : (l : List ℕ) → 8 < length l → of_numbers name l ≡ None
-  no_command [] h = absurd (omega arith)
-  no_command (a ∷ []) h = absurd (omega arith)
-  no_command (a ∷ b ∷ []) h = absurd (omega arith)
-  no_command (a ∷ b ∷ c ∷ []) h = absurd (omega arith)
-  no_command (a ∷ b ∷ c ∷ d ∷ []) h = absurd (omega arith)
-  no_command (a ∷ b ∷ c ∷ d ∷ e ∷ []) h = absurd (omega arith)
-  no_command (a ∷ b ∷ c ∷ d ∷ e ∷ f ∷ []) h = absurd (omega arith)
-  no_command (a ∷ b ∷ c ∷ d ∷ e ∷ f ∷ g ∷ []) h = absurd (omega arith)
-  no_command (a ∷ b ∷ c ∷ d ∷ e ∷ f ∷ g ∷ i ∷ l) h = refl
+  module _ (n : ℕ) (d₀ : n ≡ 0 → ⊥) (d₁ : n ≡ 1 → ⊥) (d₂ : n ≡ 2 → ⊥) (d₄ : n ≡ 4 → ⊥) (d₅ : n ≡ 5 → ⊥) (d₆ : n ≡ 6 → ⊥)
+      (d₇ : n ≡ 7 → ⊥) where
+    pub no_command : (l : List ℕ) → n ≡ length l → of_numbers name l ≡ None
+    no_command [] q = absurd (d₀ q)
+    no_command (a ∷ []) q = absurd (d₁ q)
+    no_command (a ∷ b ∷ []) q = absurd (d₂ q)
+    no_command (a ∷ b ∷ c ∷ []) q = refl
+    no_command (a ∷ b ∷ c ∷ d ∷ []) q = absurd (d₄ q)
+    no_command (a ∷ b ∷ c ∷ d ∷ e ∷ []) q = absurd (d₅ q)
+    no_command (a ∷ b ∷ c ∷ d ∷ e ∷ f ∷ []) q = absurd (d₆ q)
+    no_command (a ∷ b ∷ c ∷ d ∷ e ∷ f ∷ g ∷ []) q = absurd (d₇ q)
+    no_command (a ∷ b ∷ c ∷ d ∷ e ∷ f ∷ g ∷ h ∷ l) q = refl
+
+    pub other_numbers : (l : List ℕ) → length l ≡ 8 → None ≡ with_numbers name (cond (leb n 8) (Some (take n l)) None)
+    other_numbers l whole = go (dec_le n 8)
+      where
+        go : Dec (n ≤ 8) → None ≡ with_numbers name (cond (leb n 8) (Some (take n l)) None)
+        go (yes h) = rw (le-leb n 8 h) (sym (no_command (take n l) (sym (length-take-le n l (omega arith)))))
+        go (no h) = rw (lt-leb n 8 (omega arith))
 
   -- the reader keeps no more than eight
   pub few_enough : (o : Option (List ℕ)) → with_numbers name (few 8 o) ≡ with_numbers name o
@@ -133,7 +155,9 @@ module _ (name : ℕ) where
     where
       go : Dec (length ns ≤ 8) → with_numbers name (cond (leb (length ns) 8) (Some ns) None) ≡ of_numbers name ns
       go (yes h) = rw (le-leb (length ns) 8 h)
-      go (no h) = rw (lt-leb (length ns) 8 (omega arith)) (sym (no_command ns (omega arith)))
+      go (no h) = rw (lt-leb (length ns) 8 (omega arith))
+          (sym (no_command (length ns) (λ e. omega arith) (λ e. omega arith) (λ e. omega arith) (λ e. omega arith) (λ e. omega arith)
+          (λ e. omega arith) (λ e. omega arith) ns refl))
 
 -- ---- bytes
 
@@ -144,3 +168,12 @@ behind_space line e h =
     drop-cons line e 0 h ∙ ap (λ (k : ℕ). get_or line e 0 ∷ drop k line) (sym (add-one e))
     ∙ ap (λ (l : List ℕ). get_or line e 0
     ∷ l) (sym (take_all (length line - (e + 1)) (drop (e + 1) line) (omega (arith, length-drop (e + 1) line))))
+
+-- what the answer of reading bytes tells
+pub not_bytes : (b : Bool) (k : ℕ) → ◌≡◌ {A = Option ℕ} None (cond b (Some k) None) → b ≡ false
+not_bytes true k e = absurd (cc)
+not_bytes false k e = refl
+
+pub are_bytes : (b : Bool) (k n : ℕ) → ◌≡◌ {A = Option ℕ} (Some n) (cond b (Some k) None) → (b ≡ true) × (n ≡ k)
+are_bytes true k n e = (refl, cc)
+are_bytes false k n e = absurd (cc)

@@ -1,11 +1,13 @@
 -- Laws that nothing here cites, kept since they stood.
 -- Assumes nothing.
-use Rattle.std.specs.Prelude.{◌≡◌, refl, Bool, true, false, ◌&&◌, ℕ, ◌+◌, ◌-◌, ◌<◌, eqb, leb, length, take, drop, get_or}
+use Rattle.std.specs.Prelude.{◌≡◌, refl, Ok, Err, Bool, true, false, ◌&&◌, ℕ, ◌+◌, ◌-◌, ◌≤◌, ◌<◌, eqb, leb, length, take, drop, get_or}
 use mathlib.Core.List.{List, [], ◌∷◌, ◌++◌}
 use Rattle.std.proofs.Common.{sym, ap, ◌∙◌, add-one, arith, take-suc}
 use Rattle.std.specs.List.{list_all}
 use Rattle.tag_message.specs.Tags.{is_name}
-use Rattle.tag_message.specs.Messages.{name_length, value_length, name_in, is_message}
+use Rattle.tag_message.specs.Messages.{name_length, value_length, name_in, is_message, lengths_of, read_from}
+use Rattle.tag_message.specs.declared.TagRefusal.TheVariants.{NotATag}
+use borrow.Author.Tests.{ne_eqb}
 
 pub and-true : (b : Bool) → (b && true) ≡ b
 and-true true = refl
@@ -42,3 +44,19 @@ tested m p q =
     ap (λ (x : Bool). x && leb (value_length m) 64 && eqb (length m) (1 + name_length m + 1 + value_length m))
     (sym (p ∙ ap (λ (k : ℕ). is_name (take k (drop 1 m))) n))
     ∙ q
+
+-- ---- reading
+
+module _ (m : List ℕ) where
+  -- no byte behind the name
+  pub short_message : length m ≤ 1 + name_length m → Err NotATag ≡ read_from m
+  unfolding read_from is_message
+  short_message h = rw (ne_eqb (length m) (1 + name_length m + 1 + value_length m) (λ e. omega (arith, e)), and-false)
+
+  pub no_message : is_message m ≡ false → Err NotATag ≡ read_from m
+  unfolding read_from
+  no_message e = rw e
+
+  pub message : is_message m ≡ true → Ok (lengths_of m) ≡ read_from m
+  unfolding read_from
+  message e = rw e

@@ -11,8 +11,6 @@ use Rattle.std.specs.Prelude.{
   ◌&&◌,
   ◌||◌,
   ℕ,
-  zero,
-  suc,
   ◌+◌,
   ◌-◌,
   ◌*◌,
@@ -23,7 +21,10 @@ use Rattle.std.specs.Prelude.{
   length,
   take,
   drop,
+  Some,
+  None,
   get_or,
+  position,
   set,
   All,
 }
@@ -45,14 +46,16 @@ use Rattle.std.specs.List.{list_all, list_any}
 use Rattle.std.proofs.lemmas.Bool.{and_parts}
 use Rattle.std.proofs.lemmas.List.Elements.{All-nil, All-cons, All-append, All-get_or, All-weaker}
 use Rattle.std.proofs.lemmas.List.Sums.{AllPass-from_list_all}
-use Rattle.std.proofs.lemmas.List.Folds.{list_all_at, list_any_at, list_any_more}
+use Rattle.std.proofs.lemmas.List.Folds.{list_all_at, list_all_more, list_any_at, list_any_more}
 use borrow.Author.Tests.{eq-eqb, ne_eqb, eqb-true, eqb-false, leb-true}
 use Rattle.tag_entry.specs.Entries.{name_length, name_of, value_length, is_zero, is_free, is_used, is_entry, is_named}
 use Rattle.tag_entry.specs.Fingerprints.{fingerprint}
-use Rattle.tag_survey.specs.Tables.{entries_in, entry_at, is_fresh}
-use Rattle.tag_survey.specs.Surveys.{IsMet, Met}
+use Rattle.tag_survey.specs.Tables.{entries_in, entry_at, is_fresh, is_table, place_of}
+use Rattle.tag_survey.specs.Surveys.{IsMet, Met, survey_of}
 use Rattle.tag_survey.specs.TableLaws.{length_entries, entry_at_lem, entry_size_lem}
 use Rattle.tag_survey.specs.SurveyLaws.{free_fresh, unmet_fresh, compared_fresh, Progress}
+use Rattle.tag_survey.specs.SurveyLaws as law
+use Rattle.tag_survey.specs.declared.Seen.{Seen}
 
 -- ---- tests over a list
 
@@ -102,8 +105,11 @@ not_free name e h q = ne_eqb (name_length e) 0 (λ z. omega (arith, ap length q 
 
 -- ---- one entry of a table
 
--- the part that is lent of an entry
-pub lent_entry : (t : List ℕ) (i : ℕ) → i < 64 → take (98 * i + 98 - 98 * i) (drop (98 * i) t) ≡ entry_at (entries_in t) i
+-- the bytes of entry i
+abbrev pub lent : List ℕ → ℕ → List ℕ
+lent t i = take (98 * i + 98 - 98 * i) (drop (98 * i) t)
+
+pub lent_entry : (t : List ℕ) (i : ℕ) → i < 64 → lent t i ≡ entry_at (entries_in t) i
 lent_entry t i h =
     let n : 98 * i + 98 - 98 * i ≡ 98 = omega arith in
     rw n (sym (entry_at_lem t i h))
@@ -123,7 +129,64 @@ module _ (t : List ℕ) where
       let n : length (take i (entries_in t)) ≡ i = length-take-le i (entries_in t) (omega (arith, length_entries t)) in
       rw (← get_or-take i (entries_in t) j [] h) (every_at is_entry (take i (entries_in t)) j [] (omega arith) e)
 
+  pub lent_size : (i : ℕ) → i < 64 → length t ≡ 6272 → length (lent t i) ≡ 98
+  lent_size i h k = ap length (lent_entry t i h) ∙ entry_size_lem t i h k
+
+  pub lent_short : (i : ℕ) → i < 64 → is_entry (entry_at (entries_in t) i) ≡ true → name_length (lent t i) ≤ 32
+  lent_short i h e = rw (lent_entry t i h) (entry_short (entry_at (entries_in t) i) e)
+
+  pub asks_named : (i j : ℕ) → j < i → i ≤ 64 → length t ≡ 6272 → list_all is_entry (take i (entries_in t)) ≡ true
+      → (length (lent t j) ≡ 98) × (name_length (lent t j) ≤ 32)
+  asks_named i j h k l e = (lent_size j (omega arith) l, lent_short j (omega arith) (among i j h k e))
+
+  pub named_here : (name : List ℕ) (i j : ℕ) {b : Bool} → j < i → i ≤ 64 → b ≡ is_named name (lent t j) → b ≡ true
+      → true ≡ list_any (is_named name) (take i (entries_in t))
+  named_here name i j h k p q =
+      let n : length (take i (entries_in t)) ≡ i = length-take-le i (entries_in t) (omega (arith, length_entries t)) in
+      let e : is_named name (entry_at (entries_in t) j) ≡ true = ap (is_named name) (sym (lent_entry t j (omega arith))) ∙ sym p ∙ q in
+      sym (some_at (is_named name) (take i (entries_in t)) j [] (omega arith) (rw (get_or-take i (entries_in t) j [] h) e))
+
+  pub named_not :
+      (name : List ℕ) (j : ℕ) {b : Bool} → j < 64 → b ≡ is_named name (lent t j) → b ≡ false →
+      list_any (is_named name) (take j (entries_in t)) ≡ false → list_any (is_named name) (take (j + 1) (entries_in t)) ≡ false
+  named_not name j h p q e =
+      let n : is_named name (entry_at (entries_in t) j) ≡ false = ap (is_named name) (sym (lent_entry t j h)) ∙ sym p ∙ q in
+      some_more (is_named name) (entries_in t) j [] (below_length j h) ∙ rw (e, n)
+
+  module _ (i : ℕ) (h : i < 64) where
+    pub lent_is : lent t i ≡ entry_at (entries_in t) i
+    lent_is = lent_entry t i h
+
+    -- its name
+    pub lent_name : take (1 + name_length (lent t i) - 1) (drop 1 (lent t i)) ≡ name_of (entry_at (entries_in t) i)
+    lent_name =
+        let n : 1 + name_length (lent t i) - 1 ≡ name_length (lent t i) = omega arith in
+        ap (λ (k : ℕ). take k (drop 1 (lent t i))) n ∙ ap name_of lent_is
+
+    pub used_not_free : (name_length (lent t i) ≡ 0 → ⊥) → is_free (entry_at (entries_in t) i) ≡ false
+    used_not_free z = ne_eqb (name_length (entry_at (entries_in t) i)) 0 (λ q. z (ap name_length lent_is ∙ q))
+
+-- the first i + 1 entries are in their rules
+pub record Tested (t : List ℕ) (i : ℕ) : Type 0 where
+  pub size : length t ≡ 6272
+  pub below : i < 64
+  pub entries : list_all is_entry (take (i + 1) (entries_in t)) ≡ true
+
+pub tested_before : (t : List ℕ) (i : ℕ) → Tested t i → list_all is_entry (take i (entries_in t)) ≡ true
+tested_before t i p =
+    (and_parts (list_all is_entry (take i (entries_in t))) _
+    (sym (list_all_more is_entry (entries_in t) i [] (below_length t i p.below)) ∙ p.entries)).0
+
+pub tested_here : (t : List ℕ) (i : ℕ) → Tested t i → is_entry (entry_at (entries_in t) i) ≡ true
+tested_here t i p =
+    (and_parts (list_all is_entry (take i (entries_in t))) _
+    (sym (list_all_more is_entry (entries_in t) i [] (below_length t i p.below)) ∙ p.entries)).1
+
 -- ---- the fingerprints met
+
+pub met_snoc :
+    (met : List Bool) (es : List (List ℕ)) (e : List ℕ) → All (IsMet met) es → IsMet met e → All (IsMet met) (es ++ e ∷ [])
+met_snoc met es e m h = All-append (IsMet met) es (e ∷ []) m (All-cons (IsMet met) e [] h (All-nil (IsMet met)))
 
 -- one more
 pub met_stays : (met : List Bool) (i j : ℕ) → i < length met → get_or met j false ≡ true → get_or (set met i true) j false ≡ true
@@ -143,8 +206,7 @@ module _ (t : List ℕ) (i : ℕ) (h : i < 64) where
   grown : (met : List Bool) → All (IsMet met) (take i (entries_in t)) → IsMet met (entry_at (entries_in t) i)
       → All (IsMet met) (take (i + 1) (entries_in t))
   grown met m p =
-      let e = entry_at (entries_in t) i in
-      rw (take_more t i h) (All-append (IsMet met) (take i (entries_in t)) (e ∷ []) m (All-cons (IsMet met) e [] p (All-nil (IsMet met))))
+      rw (take_more t i h) (met_snoc met (take i (entries_in t)) (entry_at (entries_in t) i) m p)
 
   pub met_more :
       (met : List Bool) (f : ℕ) → f ≡ fingerprint (name_of (entry_at (entries_in t) i)) → f < 256 →
@@ -187,5 +249,57 @@ module _ (t : List ℕ) (i : ℕ) (h : i < 64) where
 
 -- ---- the pass
 
-pub starts : (es : List (List ℕ)) (met : List Bool) → length met ≡ 256 → Progress es met 0
-starts es met k = record { entries = refl; fresh = refl; fingerprints = record { size = k; all = All-nil (IsMet met) } }
+-- a list of entries outside of the rules has no places
+pub no_places : (name : List ℕ) (es : List (List ℕ)) → is_table es ≡ false → None ≡ survey_of name es
+unfolding survey_of
+no_places name es e = rw e
+
+module _
+    (t name : List ℕ) (met : List Bool) (seen : Seen) (i : ℕ) (p : Progress name (entries_in t) met seen i) (h : i < 64) where
+  pub broken : {b : Bool} → b ≡ is_entry (lent t i) → b ≡ false → None ≡ survey_of name (entries_in t)
+  broken q r =
+      let e : is_entry (entry_at (entries_in t) i) ≡ false = ap is_entry (sym (lent_entry t i h)) ∙ sym q ∙ r in
+      no_places name (entries_in t) (law.broken name (entries_in t) met seen i p (below_length t i h) e)
+
+  pub twice : {b : Bool} → b ≡ is_fresh (take i (entries_in t)) (entry_at (entries_in t) i) → b ≡ false
+      → None ≡ survey_of name (entries_in t)
+  twice q r = no_places name (entries_in t) (law.twice name (entries_in t) met seen i p (below_length t i h) (sym q ∙ r))
+
+  pub tested : {b : Bool} → length t ≡ 6272 → b ≡ is_entry (lent t i) → b ≡ true → Tested t i
+  tested k q r =
+      let e : is_entry (entry_at (entries_in t) i) ≡ true = ap is_entry (sym (lent_entry t i h)) ∙ sym q ∙ r in
+      record {
+        size = k;
+        below = h;
+        entries = list_all_more is_entry (entries_in t) i [] (below_length t i h) ∙ rw (p.entries, e);
+      }
+
+-- ---- by what was found
+
+-- a list of entries in the rules, and its places
+pub record SeesIn (name : List ℕ) (es : List (List ℕ)) (seen : Seen) : Type 0 where
+  pub table : is_table es ≡ true
+  pub named : seen.named ≡ place_of name es
+  pub free : seen.free ≡ position is_free es
+
+module _ (name : List ℕ) (es : List (List ℕ)) where
+  abbrev there : Seen
+  there = record { named = place_of name es; free = position is_free es }
+
+  pub sees_in : (seen : Seen) → survey_of name es ≡ Some seen → SeesIn name es seen
+  unfolding survey_of
+  sees_in seen e = go (is_table es) refl e
+    where
+      go : (b : Bool) → is_table es ≡ b → cond b (Some there) None ≡ Some seen → SeesIn name es seen
+      go true q r =
+          let s : seen ≡ there = cc in
+          record { table = q; named = ap (λ (x : Seen). x.named) s; free = ap (λ (x : Seen). x.free) s }
+      go false q r = cc
+
+  pub no_table_in : survey_of name es ≡ None → is_table es ≡ false
+  unfolding survey_of
+  no_table_in e = go (is_table es) refl e
+    where
+      go : (b : Bool) → is_table es ≡ b → cond b (Some there) None ≡ None → b ≡ false
+      go true q r = cc
+      go false q r = refl

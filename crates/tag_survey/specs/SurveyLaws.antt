@@ -39,7 +39,7 @@ use Rattle.std.specs.List.{list_all, list_any}
 use Rattle.std.specs.Option.{ok_or}
 use Rattle.std.proofs.Math.Bool.{and-false}
 use Rattle.std.proofs.lemmas.Bool.{and_parts}
-use Rattle.std.proofs.lemmas.List.Elements.{All-get_or, All-weaker}
+use Rattle.std.proofs.lemmas.List.Elements.{All-nil, All-get_or, All-weaker}
 use Rattle.std.proofs.lemmas.List.Sums.{AllPass-from_list_all}
 use Rattle.std.proofs.lemmas.List.Folds.{list_all_more, list_all_at, list_any_none}
 use Rattle.std.proofs.lemmas.Result.{err_from_is_err_and}
@@ -51,8 +51,8 @@ use Rattle.tag_message.specs.declared.TagRefusal.TheVariants.{OtherSize, NotATab
 use Rattle.tag_entry.specs.Entries.{name_length, name_of, value_length, is_zero, is_free, is_used, is_entry, is_named}
 use Rattle.tag_entry.specs.Fingerprints.{fingerprint}
 use Rattle.tag_survey.specs.Tables.{entries_in, entry_at, is_fresh, all_fresh, is_table, place_of}
-use Rattle.tag_survey.specs.Surveys.{IsMet, Met, survey_of, surveyed}
-use Rattle.tag_survey.specs.TableLaws.{length_entries}
+use Rattle.tag_survey.specs.Surveys.{IsMet, Met, seen_after, survey_of, surveyed}
+use Rattle.tag_survey.specs.TableLaws.{length_entries, first_more}
 use Rattle.tag_survey.specs.declared.Seen.{Seen}
 
 -- ---- the fingerprints met
@@ -99,12 +99,27 @@ module _ (before : List (List ℕ)) (e : List ℕ) where
 -- ---- the pass
 
 -- what holds after i entries
-pub record Progress (es : List (List ℕ)) (met : List Bool) (i : ℕ) : Type 0 where
+pub record Progress (name : List ℕ) (es : List (List ℕ)) (met : List Bool) (seen : Seen) (i : ℕ) : Type 0 where
+  pub most : i ≤ length es
   pub entries : list_all is_entry (take i es) ≡ true
   pub fresh : all_fresh (take i es) (drop i es) ≡ all_fresh [] es
   pub fingerprints : Met met (take i es)
+  pub named : seen.named ≡ position (is_named name) (take i es)
+  pub free : seen.free ≡ position is_free (take i es)
 
-module _ (es : List (List ℕ)) (met : List Bool) (i : ℕ) (p : Progress es met i) (h : i < length es) where
+pub starts : (name : List ℕ) (es : List (List ℕ)) (met : List Bool) → length met ≡ 256
+    → Progress name es met (record { named = None; free = None }) 0
+starts name es met k = record {
+  most = omega arith;
+  entries = refl;
+  fresh = refl;
+  fingerprints = record { size = k; all = All-nil (IsMet met) };
+  named = refl;
+  free = refl;
+}
+
+module _
+    (name : List ℕ) (es : List (List ℕ)) (met : List Bool) (seen : Seen) (i : ℕ) (p : Progress name es met seen i) (h : i < length es) where
   rest : all_fresh (take i es) (drop i es) ≡ (is_fresh (take i es) (entry_at es i) && all_fresh (take (i + 1) es) (drop (i + 1) es))
   unfolding all_fresh
   rest = rw (add-one i, drop-cons es i [] h, take-suc es i [] h)
@@ -118,23 +133,41 @@ module _ (es : List (List ℕ)) (met : List Bool) (i : ℕ) (p : Progress es met
   twice e = let f : all_fresh [] es ≡ false = sym p.fresh ∙ rest ∙ rw e in rw (f, and-false)
 
   pub goes_on :
-      {met' : List Bool} → is_entry (entry_at es i) ≡ true → is_fresh (take i es) (entry_at es i) ≡ true →
-      Met met' (take i es ++ entry_at es i ∷ []) → Progress es met' (i + 1)
-  goes_on e f m =
+      {met' : List Bool} {s : Seen} → is_entry (entry_at es i) ≡ true → is_fresh (take i es) (entry_at es i) ≡ true →
+      Met met' (take i es ++ entry_at es i ∷ []) → s ≡ seen_after name i (entry_at es i) seen → Progress name es met' s (i + 1)
+  goes_on e f m q =
       let n : take (i + 1) es ≡ take i es ++ entry_at es i ∷ [] = rw add-one (take-suc es i [] h) in
       record {
+        most = omega arith;
         entries = list_all_more is_entry es i [] h ∙ rw (p.entries, e);
         fresh = rw f at (sym rest ∙ p.fresh);
         fingerprints = rw n m;
+        named = ap (λ (x : Seen). x.named) q ∙ rw p.named (sym (first_more (is_named name) es i [] h));
+        free = ap (λ (x : Seen). x.free) q ∙ rw p.free (sym (first_more is_free es i [] h));
       }
 
-pub ends : (es : List (List ℕ)) (met : List Bool) (i : ℕ) → Progress es met i → length es ≤ i → is_table es ≡ true
-unfolding is_table all_fresh
-ends es met i p h =
-    let whole : take i es ≡ es = take_all i es h in
-    let none : drop i es ≡ [] = drop_of_length-le es {i = i} h in
-    let fresh : all_fresh [] es ≡ true = sym p.fresh ∙ rw none in
-    rw (fresh, (rw whole at p.entries))
+-- the places of a table in its rules
+pub places : (name : List ℕ) (es : List (List ℕ)) (seen : Seen) → is_table es ≡ true → seen.named ≡ place_of name es
+    → seen.free ≡ position is_free es → Some seen ≡ survey_of name es
+unfolding survey_of
+places name es seen e n f = rw e (λ i. Some (record { named = n i; free = f i }))
+
+module _
+    (name : List ℕ) (es : List (List ℕ)) (met : List Bool) (seen : Seen) (i : ℕ) (p : Progress name es met seen i) (h : length es ≤ i) where
+  whole : take i es ≡ es
+  whole = take_all i es h
+
+  pub ends_table : is_table es ≡ true
+  unfolding is_table all_fresh
+  ends_table =
+      let none : drop i es ≡ [] = drop_of_length-le es {i = i} h in
+      let fresh : all_fresh [] es ≡ true = sym p.fresh ∙ rw none in
+      rw (fresh, (rw whole at p.entries))
+
+  pub ends : Some seen ≡ survey_of name es
+  unfolding place_of
+  ends =
+      places name es seen ends_table (p.named ∙ ap (position (is_named name)) whole) (p.free ∙ ap (position is_free) whole)
 
 -- ---- by what was found
 
@@ -159,10 +192,13 @@ module _ (name t : List ℕ) where
     unfolding surveyed survey_of
     out_of_rules e = rw (eq-eqb (length t) 6272 h, ← q, e)
 
+    pub told : (seen : Seen) → Some seen ≡ survey_of name es → Ok seen ≡ surveyed name t
+    unfolding surveyed
+    told seen e = rw (eq-eqb (length t) 6272 h, ← q, ← e)
+
     pub in_rules : (seen : Seen) → is_table es ≡ true → seen.named ≡ place_of name es → seen.free ≡ position is_free es
         → Ok seen ≡ surveyed name t
-    unfolding surveyed survey_of
-    in_rules seen e n f = rw (eq-eqb (length t) 6272 h, ← q, e) (λ i. Ok (record { named = n i; free = f i }))
+    in_rules seen e n f = told seen (places name es seen e n f)
 
   -- by what was answered
   pub sees : (seen : Seen) → surveyed name t ≡ Ok seen → Sees name t seen

@@ -1,22 +1,68 @@
 -- Laws of `Tables`: where an entry lies in a table's bytes, and what a store changes.
 -- Assumes nothing.
-use Rattle.std.specs.Prelude.{◌≡◌, refl, List, [], ◌∷◌, ◌++◌, ℕ, zero, suc, ◌+◌, ◌*◌, ◌≤◌, ◌<◌, length, take, drop, set}
-use Rattle.std.proofs.Common.{ap, ◌∙◌, add-suc, arith, length-drop, take_at, drop_at, drop-drop, length-take-le}
+use Rattle.std.specs.Prelude.{
+  ◌≡◌,
+  refl,
+  Bool,
+  true,
+  false,
+  cond,
+  List,
+  [],
+  ◌∷◌,
+  ◌++◌,
+  ℕ,
+  zero,
+  suc,
+  Some,
+  None,
+  ◌+◌,
+  ◌*◌,
+  ◌≤◌,
+  ◌<◌,
+  eqb,
+  ltb,
+  length,
+  take,
+  drop,
+  get_or,
+  position,
+  set,
+}
+use Rattle.std.specs.List.{position_or_len}
+use Rattle.std.proofs.Common.{
+  ap,
+  ◌∙◌,
+  add-suc,
+  add-one,
+  arith,
+  length-append,
+  length-drop,
+  take-suc,
+  take_at,
+  drop_at,
+  drop-drop,
+  length-take-le,
+}
+use Rattle.std.proofs.lemmas.List.Folds.{position_or_len_push}
+use Rattle.std.proofs.lemmas.List.Sums.{prefix_len-le-length}
+use borrow.Author.Tests.{lt-ltb, le-ltb, eqb-true, eqb-false}
 use Rattle.std.specs.Simd.{first_chunks}
 use Rattle.std.proofs.lemmas.List.Edits.{sets, sets-eq}
 use Rattle.std.proofs.lemmas.List.{take-set-le, drop-set-add}
 use Rattle.pools.specs.Parts.{part}
 use Rattle.tag_survey.specs.Tables.{entries_in, entry_at}
+use Rattle.tag_survey.specs.Surveys.{stepped}
 
 -- ---- entries in bytes
 
-length_chunks : (n : ℕ) (t : List ℕ) → length (first_chunks 98 n t) ≡ n
-length_chunks zero t = refl
-length_chunks (suc n) t = ap suc (length_chunks n (drop 98 t))
+pub length_entries_of : (n : ℕ) (t : List ℕ) → length (first_chunks 98 n t) ≡ n
+length_entries_of zero t = refl
+length_entries_of (suc n) t = ap suc (length_entries_of n (drop 98 t))
 
 pub length_entries : (t : List ℕ) → length (entries_in t) ≡ 64
 unfolding entries_in
-length_entries t = length_chunks 64 t
+length_entries t = length_entries_of 64 t
 
 -- an entry is a part of the bytes
 entry_of_at : (n i : ℕ) (t : List ℕ) → i < n → entry_at (first_chunks 98 n t) i ≡ part t (98 * i) 98
@@ -62,3 +108,35 @@ set_entry t i e h k l = set_of_entry 64 i t e h (omega arith) l
 -- an entry has its size
 pub entry_size_lem : (t : List ℕ) (i : ℕ) → i < 64 → length t ≡ 6272 → length (entry_at (entries_in t) i) ≡ 98
 entry_size_lem t i h k = rw (entry_at_lem t i h) (length-take-le 98 (drop (98 * i) t) (rw length-drop (omega arith)))
+
+-- ---- the first place of a test
+
+-- by how many elements stand before it: k of n, and j with one element more
+first_step : (here : Bool) (k n j : ℕ) → k ≤ n → j ≡ cond (eqb k n) (n + cond here 0 1) k
+    → cond (ltb j (n + 1)) (Some j) None ≡ stepped here n (cond (ltb k n) (Some k) None)
+first_step here k n j h q = go (eqb k n) refl here q
+  where
+    go : (t : Bool) → eqb k n ≡ t → (d : Bool) → j ≡ cond t (n + cond d 0 1) k
+        → cond (ltb j (n + 1)) (Some j) None ≡ stepped d n (cond (ltb k n) (Some k) None)
+    go true e true r =
+        let i : j ≡ n = omega (arith, r) in
+        rw (lt-ltb j (n + 1) (omega arith), le-ltb k n (omega (arith, eqb-true k n e))) (ap Some i)
+    go true e false r = rw (le-ltb j (n + 1) (omega (arith, r)), le-ltb k n (omega (arith, eqb-true k n e)))
+    go false e d r =
+        rw (lt-ltb j (n + 1) (omega (arith, r)), lt-ltb k n (omega (arith, eqb-false k n e))) (ap Some r)
+
+module _ {A : Type 0} (p : A → Bool) where
+  pub first_snoc : (xs : List A) (x : A) → position p (xs ++ x ∷ []) ≡ stepped (p x) (length xs) (position p xs)
+  first_snoc xs x =
+      let n : length (xs ++ x ∷ []) ≡ length xs + 1 = length-append xs (x ∷ []) in
+      rw n
+      (first_step (p x) (position_or_len p xs) (length xs) (position_or_len p (xs ++ x ∷ [])) (prefix_len-le-length _ xs)
+      (position_or_len_push p xs x))
+
+  -- one element more
+  pub first_more : (l : List A) (i : ℕ) (d : A) → i < length l
+      → position p (take (i + 1) l) ≡ stepped (p (get_or l i d)) i (position p (take i l))
+  first_more l i d h =
+      ap (position p) (ap (λ (n : ℕ). take n l) (add-one i) ∙ take-suc l i d h)
+      ∙ first_snoc (take i l) (get_or l i d)
+      ∙ ap (λ (n : ℕ). stepped (p (get_or l i d)) n (position p (take i l))) (length-take-le i l (omega arith))

@@ -1,12 +1,12 @@
-// A table of tags is looked through: whether it is in its rules, where a name is, and which entry is the lowest free one.
+// One pass over a table of tags: whether it is in its rules, where a name is, and which entry is the lowest free one.
 #![tactic(auto)]
 
-ghost use Rattle.std.specs.Prelude.{◌≡◌, List, [], ◌∷◌, ◌++◌, length, position};
+ghost use Rattle.std.specs.Prelude.{◌≡◌, List, [], ◌∷◌, ◌++◌, length};
 ghost use Rattle.std.specs.List.{list_any};
 ghost use Rattle.std.specs.Option.{option_or};
-ghost use Rattle.tag_entry.specs.Entries.{is_free, is_named};
-ghost use Rattle.tag_survey.specs.Tables.{table_size, entries_in, is_fresh, place_of};
-ghost use Rattle.tag_survey.specs.Surveys.{Met, surveyed};
+ghost use Rattle.tag_entry.specs.Entries.{is_named};
+ghost use Rattle.tag_survey.specs.Tables.{table_size, entries_in, is_fresh};
+ghost use Rattle.tag_survey.specs.Surveys.{Met, seen_after, surveyed};
 
 use tag_entry::{ENTRY, Entry, fingerprint, is_entry, is_named, name_of};
 use tag_message::TagRefusal;
@@ -24,6 +24,20 @@ pub struct Seen {
 }
 
 impl Seen {
+    // With the entry at i: a place that was found stays.
+    fn with(self, i: usize, e: &Entry, name: &[u8]) -> Seen
+        ensures { result ≡ seen_after name.now i e.now self }
+    {
+        let mut seen = self;
+        if seen.named.is_none() && is_named(e, name) {
+            seen.named = Some(i);
+        }
+        if seen.free.is_none() && e[0] == 0 {
+            seen.free = Some(i);
+        }
+        seen
+    }
+
     // The place of the name, else the lowest free one.
     pub fn place(self) -> Option<usize>
         ensures { result ≡ option_or self.named self.free }
@@ -37,21 +51,6 @@ fn named_among(entries: &[Entry], name: &[u8]) -> bool
     ensures { result ≡ list_any (is_named name.now) entries.now }
 {
     entries.iter().any(|e| is_named(e, name))
-}
-
-// Where a name is, if it is there.
-#[tactic(auto, unfolding(crate::specs::Tables::place_of))]
-fn place_of(entries: &[Entry], name: &[u8]) -> Option<usize>
-    ensures { result ≡ place_of name.now entries.now }
-{
-    entries.iter().position(|e| is_named(e, name))
-}
-
-// The lowest free entry, if there is one.
-fn lowest_free(entries: &[Entry]) -> Option<usize>
-    ensures { result ≡ position is_free entries.now }
-{
-    entries.iter().position(|e| e[0] == 0)
 }
 
 // Whether no entry before this one has its name. `met` has the fingerprints of the names before it; only where its own is
@@ -88,13 +87,15 @@ pub fn survey(table: &[u8], name: &[u8]) -> Result<Seen, TagRefusal>
     }
     let entries = entries_in(table);
     let mut met = [false; 256];
+    let mut seen = Seen {
+        named: None,
+        free: None,
+    };
     for (i, e) in entries.iter().enumerate() {
         if !is_entry(e) || !is_fresh(&entries[..i], e, &mut met) {
             return Err(TagRefusal::NotATable);
         }
+        seen = seen.with(i, e, name);
     }
-    Ok(Seen {
-        named: place_of(entries, name),
-        free: lowest_free(entries),
-    })
+    Ok(seen)
 }

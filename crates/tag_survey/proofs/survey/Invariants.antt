@@ -3,4 +3,4 @@ use Rattle.tag_survey.specs.SurveyLaws.{Progress}
 use Rattle.tag_survey.proofs.survey.Given as goal
 
 abbrev pub invariant-loop-i : goal.invariant-loop-i
-invariant-loop-i l = Progress l.entries l.met l.i
+invariant-loop-i l = Progress l.name l.entries l.met l.seen l.i
