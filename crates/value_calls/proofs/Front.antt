@@ -17,6 +17,14 @@ module _ (table : List Record) (lent n : ℕ) (whole : length table ≡ 128) (e 
       go (yes h) = let q : n ≡ lent = omega arith in rw q
       go (no h) = let q : n ≡ 128 = omega arith in rw q (take_all lent table (omega arith) ∙ sym (take_all 128 table (omega arith)))
 
+  pub lent_rest : drop n table ≡ drop lent table
+  lent_rest = go (dec_le lent 128)
+    where
+      go : Dec (lent ≤ 128) → drop n table ≡ drop lent table
+      go (yes h) = let q : n ≡ lent = omega arith in rw q
+      go (no h) = let q : n ≡ 128 = omega arith in
+          rw q (drop_of_length-le table {i = 128} (omega arith) ∙ sym (drop_of_length-le table {i = lent} (omega arith)))
+
   -- once those records are others
   module _ (next : List Record) (many : length next ≡ length (take n table)) where
     pub fronted : take lent (next ++ drop n table) ≡ next
