@@ -17,7 +17,8 @@ use Rattle.timing.specs.declared.Record.{Record}
 use Rattle.slots.specs.Slots.{once}
 use Rattle.session.specs.Valid.{all}
 use Rattle.marks.specs.Marks.{none_of, none_to_send, marked_all}
-use Rattle.checking.specs.Tests.{follows, neighbours, fits_after, least_after, least_after_all, carried_after, send_word_fits, sent_few, send_slots_in, SendingFits}
+use Rattle.checking.specs.Tests.{follows, neighbours, fits_after, least_after, least_after_all}
+use Rattle.checking.specs.Tests.{carried_after, send_word_fits, sent_few, send_slots_in, SendingFits}
 
 pub not-true : (b : Bool) → not b ≡ true → b ≡ false
 not-true true e = sym e

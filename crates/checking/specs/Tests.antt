@@ -1,6 +1,7 @@
 -- What the check of a control block asks of its words, numbers and records, as the code takes it. Definitions.
 -- Assumes nothing.
-use Rattle.std.specs.Prelude.{◌≡◌, Bool, true, false, cond, not, ◌&&◌, ◌||◌, List, [], ◌∷◌, ◌++◌, ℕ, ◌+◌, ◌-◌, ◌%◌, ◌^◌, leb, ltb, eqb, length, get_or, map, Some, None}
+use Rattle.std.specs.Prelude.{◌≡◌, Bool, true, false, cond, not, ◌&&◌, ◌||◌, List, [], ◌∷◌, ◌++◌}
+use Rattle.std.specs.Prelude.{ℕ, ◌+◌, ◌-◌, ◌%◌, ◌^◌, leb, ltb, eqb, length, get_or, map, Some, None}
 use Rattle.std.specs.declared.option.Option.{Option}
 use Rattle.protocol.specs.Protocol.{send_slots, send_window, receive_window, dead_after, skips_most}
 use Rattle.protocol.specs.Ranges.{in_range, mss}

@@ -31,7 +31,8 @@ take_sets_front l t h =
     ap (take (length t)) (sets-eq t l 0 room) ∙ take-append_seam t (drop (0 + length t) l)
 
 -- text that is put into the bytes of a line
-pub holds_put : (was is t : List ℕ) (len : ℕ) → length was ≡ 80 → length t ≤ 80 → Put was 0 t len is → Holds t (record { bytes = is; len = len })
+pub holds_put : (was is t : List ℕ) (len : ℕ) → length was ≡ 80 → length t ≤ 80 → Put was 0 t len is
+    → Holds t (record { bytes = is; len = len })
 holds_put was is t len whole short p =
     let long : len ≡ length t = omega (arith, p.next) in
     record {

@@ -51,7 +51,8 @@ arrival_zero a z = go a.expected a.tell a.ready a.waiting a.acks z.0 z.1.0 z.1.1
     go e t r w k p1 p2 p3 p4 p5 = cc
 
 clock_zero : (k : Clock)
-    → ((k.probe.wait ≡ 0) × (k.probe.due ≡ 0)) × ((k.current ≡ 0) × ((k.next_flush ≡ 0) × ((k.ask ≡ 0) × ((k.dead ≡ 0) × (k.updated ≡ 0)))))
+    → ((k.probe.wait ≡ 0) × (k.probe.due ≡ 0))
+    × ((k.current ≡ 0) × ((k.next_flush ≡ 0) × ((k.ask ≡ 0) × ((k.dead ≡ 0) × (k.updated ≡ 0)))))
     → k ≡ record { probe = record { wait = 0; due = 0 }; current = 0; next_flush = 0; ask = 0; dead = 0; updated = 0 }
 clock_zero k z = go k.probe.wait k.probe.due k.current k.next_flush k.ask k.dead k.updated z.0.0 z.0.1 z.1.0 z.1.1.0 z.1.1.1.0 z.1.1.1.1.0 z.1.1.1.1.1
   where
@@ -64,7 +65,8 @@ clock_zero k z = go k.probe.wait k.probe.due k.current k.next_flush k.ask k.dead
 pub made_of : (c : Settings) (x : Arrays) (una next smoothed variation queued outstanding : ℕ) (g : Congestion) (a : Arrival) (k : Clock)
     → una ≡ 0 → next ≡ 0 → smoothed ≡ 0 → variation ≡ 0 → queued ≡ 0 → outstanding ≡ 0 → g ≡ initial
     → (a.expected ≡ 0) × ((a.tell ≡ 0) × ((a.ready ≡ 0) × ((a.waiting ≡ 0) × (a.acks ≡ 0))))
-    → ((k.probe.wait ≡ 0) × (k.probe.due ≡ 0)) × ((k.current ≡ 0) × ((k.next_flush ≡ 0) × ((k.ask ≡ 0) × ((k.dead ≡ 0) × (k.updated ≡ 0)))))
+    → ((k.probe.wait ≡ 0) × (k.probe.due ≡ 0))
+    × ((k.current ≡ 0) × ((k.next_flush ≡ 0) × ((k.ask ≡ 0) × ((k.dead ≡ 0) × (k.updated ≡ 0)))))
     → link_of c
     (record {
       una = una;

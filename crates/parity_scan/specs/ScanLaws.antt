@@ -1,6 +1,7 @@
 -- Steps of a scan: a frame checked, and its shard noted.
 -- Assumes nothing.
-use Rattle.std.specs.Prelude.{◌≡◌, Bool, ◌&&◌, ◌||◌, ℕ, zero, suc, ◌+◌, ◌-◌, ◌≤◌, ◌<◌, leb, drop, set, replicate, slice_get, slice_index_or}
+use Rattle.std.specs.Prelude.{◌≡◌, Bool, ◌&&◌, ◌||◌, ℕ, zero, suc, ◌+◌}
+use Rattle.std.specs.Prelude.{◌-◌, ◌≤◌, ◌<◌, leb, drop, set, replicate, slice_get, slice_index_or}
 use Rattle.std.proofs.Math.Path.{refl, ap, subst}
 use Rattle.std.proofs.Common.{sym, ◌∙◌, add-one, length-set, drop_of_length-le, drop-cons, drop-drop, Option, None, Some}
 use Rattle.std.proofs.Math.Bool.{true, false, cond}

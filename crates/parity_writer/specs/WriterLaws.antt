@@ -104,7 +104,8 @@ data_stored seq at n d o₀ o₁ o₂ o₃ o₄ l e₁ e₂ e₃ e₄ =
     (e₂ ∙ ap (λ (o : List ℕ). sets o (at + 4) (bytes_of 2 241)) e₁))
     ∙ sym (rw l (simp (sets_append, length_bytes_of) (rw (p, q))))
 
-pub parity_stored : (seq at : ℕ) (c o₀ o₁ o₂ o₃ : List ℕ) → o₁ ≡ sets o₀ at (bytes_of 4 seq) → o₂ ≡ sets o₁ (at + 4) (bytes_of 2 242)
+pub parity_stored : (seq at : ℕ) (c o₀ o₁ o₂ o₃ : List ℕ) → o₁ ≡ sets o₀ at (bytes_of 4 seq)
+    → o₂ ≡ sets o₁ (at + 4) (bytes_of 2 242)
     → o₃ ≡ sets o₂ (at + 6) c → o₃ ≡ sets o₀ at (frame seq 242 c)
 unfolding frame
 parity_stored seq at c o₀ o₁ o₂ o₃ e₁ e₂ e₃ =

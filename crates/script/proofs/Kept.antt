@@ -1,7 +1,9 @@
 -- Laws that nothing here cites, kept since they stood.
 -- Assumes nothing.
-use Rattle.std.specs.Prelude.{◌≡◌, refl, Bool, true, false, cond, ◌||◌, Option, Some, None, List, [], ◌∷◌, ℕ, suc, ◌+◌, ◌*◌, ◌-◌, ◌≤◌, ◌<◌, leb, eqb, length, get_or, take, drop}
-use Rattle.std.proofs.Common.{sym, ap, ◌∙◌, inl, inr, add-one, arith, ne_eqb, eq-eqb, le-leb, length-drop, length-take-le, drop_of_length-le, drop-cons, take_all}
+use Rattle.std.specs.Prelude.{◌≡◌, refl, Bool, true, false, cond, ◌||◌, Option, Some, None, List, [], ◌∷◌}
+use Rattle.std.specs.Prelude.{ℕ, suc, ◌+◌, ◌*◌, ◌-◌, ◌≤◌, ◌<◌, leb, eqb, length, get_or, take, drop}
+use Rattle.std.proofs.Common.{sym, ap, ◌∙◌, inl, inr, add-one, arith}
+use Rattle.std.proofs.Common.{ne_eqb, eq-eqb, le-leb, length-drop, length-take-le, drop_of_length-le, drop-cons, take_all}
 use Rattle.std.proofs.Math.Bool.{or-true}
 use Rattle.std.proofs.Math.Decide.{dec_le}
 use Rattle.std.proofs.lemmas.Bool.{lt-leb}
@@ -128,7 +130,8 @@ module _ (name : ℕ) where
   seven_numbers (a ∷ b ∷ c ∷ d ∷ e ∷ f ∷ []) h = absurd (omega arith)
   seven_numbers (a ∷ b ∷ c ∷ d ∷ e ∷ f ∷ g ∷ l) h = refl
 
-  module _ (n : ℕ) (d₀ : n ≡ 0 → ⊥) (d₁ : n ≡ 1 → ⊥) (d₂ : n ≡ 2 → ⊥) (d₄ : n ≡ 4 → ⊥) (d₅ : n ≡ 5 → ⊥) (d₆ : n ≡ 6 → ⊥)
+  module _ (n : ℕ) (d₀ : n ≡ 0 → ⊥) (d₁ : n ≡ 1 → ⊥) (d₂ : n ≡ 2 → ⊥)
+      (d₄ : n ≡ 4 → ⊥) (d₅ : n ≡ 5 → ⊥) (d₆ : n ≡ 6 → ⊥)
       (d₇ : n ≡ 7 → ⊥) where
     pub no_command : (l : List ℕ) → n ≡ length l → of_numbers name l ≡ None
     no_command [] q = absurd (d₀ q)

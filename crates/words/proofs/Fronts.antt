@@ -1,6 +1,7 @@
 -- What a move within the front of a lent array leaves.
 -- Assumes nothing.
-use Rattle.std.proofs.Common.{◌≡◌, refl, sym, ap, ◌∙◌, subst, List, ◌∷◌, ◌++◌, ℕ, suc, ◌+◌, ◌-◌, ◌≤◌, ◌<◌, length, take, drop, get_or, set, arith, length-set, length-drop}
+use Rattle.std.proofs.Common.{◌≡◌, refl, sym, ap, ◌∙◌, subst, List, ◌∷◌, ◌++◌, ℕ, suc}
+use Rattle.std.proofs.Common.{◌+◌, ◌-◌, ◌≤◌, ◌<◌, length, take, drop, get_or, set, arith, length-set, length-drop}
 use lib.Seq.{paste, take-suc, take-set-lt, set_at, length-take-le, take-take, append_snoc}
 use native.Mathlib.Numerals.{add-one}
 use Rattle.std.proofs.lemmas.List.{get_or-drop}

@@ -8,7 +8,8 @@ pub returns-then-not-in_range-clause-opens : goal.returns-then-not-in_range-clau
 returns-then-not-in_range-clause-opens c = out_of_range _ _ _ _ c.in_range.ensures (ap not c.if-not-in_range.true)
 
 pub returns-then-not-enough-clause-opens : goal.returns-then-not-enough-clause-opens
-returns-then-not-enough-clause-opens c = short c.args.new _ _ _ c.in_range.ensures _ c.enough.ensures (ap not c.if-not-in_range.false) (ap not c.if-not-enough.true)
+returns-then-not-enough-clause-opens c =
+    short c.args.new _ _ _ c.in_range.ensures _ c.enough.ensures (ap not c.if-not-in_range.false) (ap not c.if-not-enough.true)
 
 pub returns-clause-opens : goal.returns-clause-opens
 returns-clause-opens c =
