@@ -53,7 +53,7 @@ use Rattle.tag_entry.specs.Fingerprints.{fingerprint}
 use Rattle.tag_survey.specs.Tables.{entries_in, entry_at, is_fresh, is_table, place_of}
 use Rattle.tag_survey.specs.Surveys.{IsMet, Met, survey_of}
 use Rattle.tag_survey.specs.TableLaws.{length_entries, entry_at_lem, entry_size_lem}
-use Rattle.tag_survey.specs.SurveyLaws.{free_fresh, unmet_fresh, compared_fresh, Progress}
+use Rattle.tag_survey.specs.SurveyLaws.{free_fresh, unmet_fresh, compared_fresh, Progress, Surveying}
 use Rattle.tag_survey.specs.SurveyLaws as law
 use Rattle.tag_survey.specs.declared.Seen.{Seen}
 
@@ -249,21 +249,24 @@ module _ (t : List ℕ) (i : ℕ) (h : i < 64) where
 
 -- ---- the pass
 
+pub starts : (es : List (List ℕ)) (met : List Bool) → length met ≡ 256 → Progress es met 0
+starts es met k = record { entries = refl; fresh = refl; fingerprints = record { size = k; all = All-nil (IsMet met) } }
+
 -- a list of entries outside of the rules has no places
 pub no_places : (name : List ℕ) (es : List (List ℕ)) → is_table es ≡ false → None ≡ survey_of name es
 unfolding survey_of
 no_places name es e = rw e
 
 module _
-    (t name : List ℕ) (met : List Bool) (seen : Seen) (i : ℕ) (p : Progress name (entries_in t) met seen i) (h : i < 64) where
+    (t name : List ℕ) (met : List Bool) (seen : Seen) (i : ℕ) (p : Surveying name (entries_in t) met seen i) (h : i < 64) where
   pub broken : {b : Bool} → b ≡ is_entry (lent t i) → b ≡ false → None ≡ survey_of name (entries_in t)
   broken q r =
       let e : is_entry (entry_at (entries_in t) i) ≡ false = ap is_entry (sym (lent_entry t i h)) ∙ sym q ∙ r in
-      no_places name (entries_in t) (law.broken name (entries_in t) met seen i p (below_length t i h) e)
+      no_places name (entries_in t) (law.surveying_broken name (entries_in t) met seen i p (below_length t i h) e)
 
   pub twice : {b : Bool} → b ≡ is_fresh (take i (entries_in t)) (entry_at (entries_in t) i) → b ≡ false
       → None ≡ survey_of name (entries_in t)
-  twice q r = no_places name (entries_in t) (law.twice name (entries_in t) met seen i p (below_length t i h) (sym q ∙ r))
+  twice q r = no_places name (entries_in t) (law.surveying_twice name (entries_in t) met seen i p (below_length t i h) (sym q ∙ r))
 
   pub tested : {b : Bool} → length t ≡ 6272 → b ≡ is_entry (lent t i) → b ≡ true → Tested t i
   tested k q r =

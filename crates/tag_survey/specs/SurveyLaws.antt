@@ -98,28 +98,13 @@ module _ (before : List (List ℕ)) (e : List ℕ) where
 
 -- ---- the pass
 
--- what holds after i entries
-pub record Progress (name : List ℕ) (es : List (List ℕ)) (met : List Bool) (seen : Seen) (i : ℕ) : Type 0 where
-  pub most : i ≤ length es
+-- of the rules, after i entries
+pub record Progress (es : List (List ℕ)) (met : List Bool) (i : ℕ) : Type 0 where
   pub entries : list_all is_entry (take i es) ≡ true
   pub fresh : all_fresh (take i es) (drop i es) ≡ all_fresh [] es
   pub fingerprints : Met met (take i es)
-  pub named : seen.named ≡ position (is_named name) (take i es)
-  pub free : seen.free ≡ position is_free (take i es)
 
-pub starts : (name : List ℕ) (es : List (List ℕ)) (met : List Bool) → length met ≡ 256
-    → Progress name es met (record { named = None; free = None }) 0
-starts name es met k = record {
-  most = omega arith;
-  entries = refl;
-  fresh = refl;
-  fingerprints = record { size = k; all = All-nil (IsMet met) };
-  named = refl;
-  free = refl;
-}
-
-module _
-    (name : List ℕ) (es : List (List ℕ)) (met : List Bool) (seen : Seen) (i : ℕ) (p : Progress name es met seen i) (h : i < length es) where
+module _ (es : List (List ℕ)) (met : List Bool) (i : ℕ) (p : Progress es met i) (h : i < length es) where
   rest : all_fresh (take i es) (drop i es) ≡ (is_fresh (take i es) (entry_at es i) && all_fresh (take (i + 1) es) (drop (i + 1) es))
   unfolding all_fresh
   rest = rw (add-one i, drop-cons es i [] h, take-suc es i [] h)
@@ -133,18 +118,43 @@ module _
   twice e = let f : all_fresh [] es ≡ false = sym p.fresh ∙ rest ∙ rw e in rw (f, and-false)
 
   pub goes_on :
-      {met' : List Bool} {s : Seen} → is_entry (entry_at es i) ≡ true → is_fresh (take i es) (entry_at es i) ≡ true →
-      Met met' (take i es ++ entry_at es i ∷ []) → s ≡ seen_after name i (entry_at es i) seen → Progress name es met' s (i + 1)
-  goes_on e f m q =
+      {met' : List Bool} → is_entry (entry_at es i) ≡ true → is_fresh (take i es) (entry_at es i) ≡ true →
+      Met met' (take i es ++ entry_at es i ∷ []) → Progress es met' (i + 1)
+  goes_on e f m =
       let n : take (i + 1) es ≡ take i es ++ entry_at es i ∷ [] = rw add-one (take-suc es i [] h) in
       record {
-        most = omega arith;
         entries = list_all_more is_entry es i [] h ∙ rw (p.entries, e);
         fresh = rw f at (sym rest ∙ p.fresh);
         fingerprints = rw n m;
-        named = ap (λ (x : Seen). x.named) q ∙ rw p.named (sym (first_more (is_named name) es i [] h));
-        free = ap (λ (x : Seen). x.free) q ∙ rw p.free (sym (first_more is_free es i [] h));
       }
+
+pub ends : (es : List (List ℕ)) (met : List Bool) (i : ℕ) → Progress es met i → length es ≤ i → is_table es ≡ true
+unfolding is_table all_fresh
+ends es met i p h =
+    let whole : take i es ≡ es = take_all i es h in
+    let none : drop i es ≡ [] = drop_of_length-le es {i = i} h in
+    let fresh : all_fresh [] es ≡ true = sym p.fresh ∙ rw none in
+    rw (fresh, (rw whole at p.entries))
+
+-- of the rules and the places, after i entries
+pub record Surveying (name : List ℕ) (es : List (List ℕ)) (met : List Bool) (seen : Seen) (i : ℕ) : Type 0 where
+  pub most : i ≤ length es
+  pub entries : list_all is_entry (take i es) ≡ true
+  pub fresh : all_fresh (take i es) (drop i es) ≡ all_fresh [] es
+  pub fingerprints : Met met (take i es)
+  pub named : seen.named ≡ position (is_named name) (take i es)
+  pub free : seen.free ≡ position is_free (take i es)
+
+pub surveying_starts : (name : List ℕ) (es : List (List ℕ)) (met : List Bool) → length met ≡ 256
+    → Surveying name es met (record { named = None; free = None }) 0
+surveying_starts name es met k = record {
+  most = omega arith;
+  entries = refl;
+  fresh = refl;
+  fingerprints = record { size = k; all = All-nil (IsMet met) };
+  named = refl;
+  free = refl;
+}
 
 -- the places of a table in its rules
 pub places : (name : List ℕ) (es : List (List ℕ)) (seen : Seen) → is_table es ≡ true → seen.named ≡ place_of name es
@@ -152,22 +162,40 @@ pub places : (name : List ℕ) (es : List (List ℕ)) (seen : Seen) → is_table
 unfolding survey_of
 places name es seen e n f = rw e (λ i. Some (record { named = n i; free = f i }))
 
-module _
-    (name : List ℕ) (es : List (List ℕ)) (met : List Bool) (seen : Seen) (i : ℕ) (p : Progress name es met seen i) (h : length es ≤ i) where
-  whole : take i es ≡ es
-  whole = take_all i es h
+module _ (name : List ℕ) (es : List (List ℕ)) (met : List Bool) (seen : Seen) (i : ℕ) (p : Surveying name es met seen i) where
+  pub progress : Progress es met i
+  progress = record { entries = p.entries; fresh = p.fresh; fingerprints = p.fingerprints }
 
-  pub ends_table : is_table es ≡ true
-  unfolding is_table all_fresh
-  ends_table =
-      let none : drop i es ≡ [] = drop_of_length-le es {i = i} h in
-      let fresh : all_fresh [] es ≡ true = sym p.fresh ∙ rw none in
-      rw (fresh, (rw whole at p.entries))
+  module _ (h : i < length es) where
+    pub surveying_broken : is_entry (entry_at es i) ≡ false → is_table es ≡ false
+    surveying_broken e = broken es met i progress h e
 
-  pub ends : Some seen ≡ survey_of name es
-  unfolding place_of
-  ends =
-      places name es seen ends_table (p.named ∙ ap (position (is_named name)) whole) (p.free ∙ ap (position is_free) whole)
+    pub surveying_twice : is_fresh (take i es) (entry_at es i) ≡ false → is_table es ≡ false
+    surveying_twice e = twice es met i progress h e
+
+    pub surveying_goes_on :
+        {met' : List Bool} {s : Seen} → is_entry (entry_at es i) ≡ true → is_fresh (take i es) (entry_at es i) ≡ true →
+        Met met' (take i es ++ entry_at es i ∷ []) → s ≡ seen_after name i (entry_at es i) seen → Surveying name es met' s (i + 1)
+    surveying_goes_on e f m q =
+        let next = goes_on es met i progress h e f m in
+        record {
+          most = omega arith;
+          entries = next.entries;
+          fresh = next.fresh;
+          fingerprints = next.fingerprints;
+          named = ap (λ (x : Seen). x.named) q ∙ rw p.named (sym (first_more (is_named name) es i [] h));
+          free = ap (λ (x : Seen). x.free) q ∙ rw p.free (sym (first_more is_free es i [] h));
+        }
+
+  module _ (h : length es ≤ i) where
+    pub ends_table : is_table es ≡ true
+    ends_table = ends es met i progress h
+
+    pub surveying_ends : Some seen ≡ survey_of name es
+    unfolding place_of
+    surveying_ends =
+        let whole : take i es ≡ es = take_all i es h in
+        places name es seen ends_table (p.named ∙ ap (position (is_named name)) whole) (p.free ∙ ap (position is_free) whole)
 
 -- ---- by what was found
 

@@ -11,7 +11,7 @@ pub returns-then-table-ne-SIZE : goal.returns-then-table-ne-SIZE
 returns-then-table-ne-SIZE c = law.other_size _ _ c.if-table-ne-SIZE.true
 
 pub loop-i-init : goal.loop-i-init
-loop-i-init c = law.starts _ _ _ refl
+loop-i-init c = law.surveying_starts _ _ _ refl
 
 pub returns-then-not-is_entry : goal.returns-then-not-is_entry
 returns-then-not-is_entry c =
@@ -19,17 +19,17 @@ returns-then-not-is_entry c =
     law.out_of_rules _ _ c.if-table-ne-SIZE.false _ c.entries_in-entries.ensures
     (elim c.then-not-is_entry.branch [
       | then-not-is_entry-via-then-not-is_entry w ↦
-          law.broken _ _ _ _ l.i l.invariant c.loop-i-test.true (sym c.is_entry.ensures ∙ w.if-not-is_entry.true)
+          law.surveying_broken _ _ _ _ l.i l.invariant c.loop-i-test.true (sym c.is_entry.ensures ∙ w.if-not-is_entry.true)
       | then-not-is_entry-via-else-not-is_entry+then-not-is_fresh w ↦
-          law.twice _ _ _ _ l.i l.invariant c.loop-i-test.true (sym w.is_fresh.ensures.fresh ∙ w.if-not-is_fresh.true)
+          law.surveying_twice _ _ _ _ l.i l.invariant c.loop-i-test.true (sym w.is_fresh.ensures.fresh ∙ w.if-not-is_fresh.true)
     ])
 
 pub loop-i-preserved : goal.loop-i-preserved
 loop-i-preserved c =
-    law.goes_on _ _ _ _ _ c.loop-i.invariant c.loop-i-test.true (sym c.is_entry.ensures ∙ c.if-not-is_entry.false)
+    law.surveying_goes_on _ _ _ _ _ c.loop-i.invariant c.loop-i-test.true (sym c.is_entry.ensures ∙ c.if-not-is_entry.false)
     (sym c.is_fresh.ensures.fresh ∙ c.if-not-is_fresh.false) c.is_fresh.ensures.fingerprints c.with-seen.ensures
 
 pub returns : goal.returns
 returns c =
     law.told _ _ c.if-table-ne-SIZE.false _ c.entries_in-entries.ensures _
-    (law.ends _ _ _ _ c.loop-i.i c.loop-i.invariant c.loop-i-test.false)
+    (law.surveying_ends _ _ _ _ c.loop-i.i c.loop-i.invariant c.loop-i-test.false)
